@@ -1,0 +1,11 @@
+pub mod Spelling
+pub mod Compose
+pub mod Linear
+pub mod Images
+pub mod Quadword
+pub mod Rows
+pub mod Coefficients
+pub mod Dual8
+pub mod Bytes
+pub mod Image
+pub mod Algebra

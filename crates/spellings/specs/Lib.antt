@@ -1,0 +1,5 @@
+pub mod Maps
+pub mod Quadword
+pub mod Lists
+pub mod Kinds
+pub mod Theorem
