@@ -1,0 +1,5 @@
+pub mod Elements
+pub mod Frobenius
+pub mod Unique
+pub mod Conversions
+pub mod Agree

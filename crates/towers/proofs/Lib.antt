@@ -1,0 +1,15 @@
+pub mod Sum
+pub mod Level
+pub mod Mul
+pub mod Ring
+pub mod Gen
+pub mod Monomial
+pub mod Step
+pub mod Maps
+pub mod Images
+pub mod Basis
+pub mod Quadwords
+pub mod Order
+pub mod Generator
+pub mod Tower
+pub mod Change

@@ -1,0 +1,4 @@
+pub mod Level
+pub mod Mul
+pub mod Basis
+pub mod Theorem
