@@ -1,0 +1,5 @@
+pub mod Bytes
+pub mod Place
+pub mod RoundTrip
+pub mod Refusal
+pub mod Unique

@@ -1,0 +1,4 @@
+pub mod Turn
+pub mod Polynomial
+pub mod Refusal
+pub mod Unique
