@@ -1,11 +1,13 @@
 // What a call answers that may refuse: its value, or one of the numbered refusals. One vocabulary for all crates above.
+#![tactic(auto)]
+
 ghost use mathlib.Core.Path.{◌≡◌};
 ghost use Rattle.answers.specs.Answer.{refusal, number, outcome};
 
 use words::Limbs;
 
 // Why a call refuses.
-#[derive(Drop)]
+#[derive(Clone, Copy)]
 pub enum Refusal {
     NoInverse,
     LengthsDiffer,
@@ -16,28 +18,28 @@ pub enum Refusal {
 }
 
 // A byte, or a refusal.
-#[derive(Drop)]
+#[derive(Clone, Copy)]
 pub enum Byte {
     Value(u8),
     Refused(Refusal),
 }
 
 // A word, or a refusal.
-#[derive(Drop)]
+#[derive(Clone, Copy)]
 pub enum Word {
     Value(u64),
     Refused(Refusal),
 }
 
 // Two limbs, or a refusal.
-#[derive(Drop)]
+#[derive(Clone, Copy)]
 pub enum Wide {
     Value(Limbs),
     Refused(Refusal),
 }
 
 // Done, or a refusal.
-#[derive(Drop)]
+#[derive(Clone, Copy)]
 pub enum Outcome {
     Done,
     Refused(Refusal),

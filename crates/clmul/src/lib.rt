@@ -1,4 +1,6 @@
 // Carryless products of 64-bit words.
+#![tactic(auto)]
+
 ghost use Rattle.std.specs.Prelude.{◌≡◌, ◌/◌, ◌%◌, ◌^◌};
 ghost use Rattle.gf2.specs.Poly.{cmul};
 ghost use Rattle.words.specs.Limbs.{limbs};

@@ -1,18 +1,20 @@
 // What the program `seats` does with texts and maps before and after the byte matrix: numbers in hexadecimal, a map's rows as
 // words, and a row's picture.
+#![tactic(auto)]
+
 ghost use Rattle.std.specs.Prelude.{◌≡◌, ◌+◌, ◌≤◌, ◌<◌, length, get_or};
 ghost use Rattle.coach.specs.Hex.{digit_of, hex_of};
 ghost use Rattle.coach.specs.Rows.{words_for_rows, row_word_of, packed_answer, packed, seat_of, drawn};
 
 // A number read from a text, or that the text is no number.
-#[derive(Drop)]
+#[derive(Clone, Copy)]
 pub enum Hex {
     Value(u64),
     Bad,
 }
 
 // How many words were written, or refusal 4.
-#[derive(Drop)]
+#[derive(Clone, Copy)]
 pub enum Packed {
     Words(usize),
     Short,

@@ -1,5 +1,7 @@
 // Little-endian words of 64 and 128 bits in lent bytes. A reader ignores what follows its element; a writer changes the
 // bytes of its element only.
+#![tactic(auto)]
+
 ghost use Rattle.std.specs.Prelude.{◌≡◌, ◌+◌, ◌≤◌, length, drop};
 ghost use Rattle.std.proofs.Math.Seq.{paste};
 ghost use Rattle.words.specs.Limbs.{value};
@@ -9,21 +11,21 @@ ghost use Rattle.endian.specs.Answers.{read64, read128, room_for};
 use words::Limbs;
 
 // The word, or refusal 4.
-#[derive(Drop)]
+#[derive(Clone, Copy)]
 pub enum Word64 {
     Value(u64),
     Short,
 }
 
 // The element, or refusal 4.
-#[derive(Drop)]
+#[derive(Clone, Copy)]
 pub enum Word128 {
     Value(Limbs),
     Short,
 }
 
 // Written, or refusal 4.
-#[derive(Drop)]
+#[derive(Clone, Copy)]
 pub enum Room {
     Done,
     Short,

@@ -1,4 +1,6 @@
 // The fingerprint of a list of words: what two ends compare instead of the list.
+#![tactic(auto)]
+
 ghost use Rattle.std.specs.Prelude.{◌≡◌};
 ghost use Rattle.fingerprint.specs.Print.{answer};
 
@@ -6,7 +8,7 @@ ghost use Rattle.fingerprint.specs.Print.{answer};
 const LIMIT: usize = 4096;
 
 // The fingerprint, or refusal 6.
-#[derive(Drop)]
+#[derive(Clone, Copy)]
 pub enum Print {
     Value(u64),
     TooManyWords,

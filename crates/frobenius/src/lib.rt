@@ -1,5 +1,7 @@
 // The Frobenius maps of the byte field, and linearized polynomials: sums of c_j times v^(2^j). Squaring keeps XOR, so
 // each of these is a byte map, and has a quadword, eight images and eight coefficients.
+#![tactic(auto)]
+
 ghost use Rattle.std.specs.Prelude.{◌≡◌, ◌<◌, get_or};
 ghost use Rattle.gf2.specs.Bits.{tab};
 ghost use Rattle.gf2.specs.Residue.{frob};
@@ -63,7 +65,7 @@ fn coefficient(images: [u8; 8], j: usize) -> u8
 }
 
 // The byte map that sends v to the sum over j of entry j times v^(2^j).
-#[derive(Drop)]
+#[derive(Clone, Copy)]
 pub struct LinearizedPoly8b([Rijndael8b; 8]);
 
 impl LinearizedPoly8b {

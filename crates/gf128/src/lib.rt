@@ -1,4 +1,6 @@
 // Arithmetic modulo x^128 + x^7 + x^2 + x + 1. An element is two limbs, the low one first.
+#![tactic(auto)]
+
 ghost use Rattle.std.specs.Prelude.{◌≡◌, ◌+◌, ◌*◌, ◌/◌, ◌^◌, ◌<◌, length};
 ghost use Rattle.gf2.specs.Poly.{◌⊕◌, cmul};
 ghost use Rattle.gf2.specs.Residue.{mul, sq};
@@ -18,7 +20,7 @@ pub fn add_128(a: Limbs, b: Limbs) -> Limbs
 }
 
 // A product before its reduction: the lowest 128 bits, and those above.
-#[derive(Drop)]
+#[derive(Clone, Copy)]
 struct Wide {
     low: Limbs,
     high: Limbs,
@@ -71,7 +73,7 @@ pub fn poly_square_128(a: Limbs) -> Limbs
 }
 
 // What a sum of products answers.
-#[derive(Drop)]
+#[derive(Clone, Copy)]
 pub enum Dot128 {
     Value(Limbs),
     LengthsDiffer,

@@ -1,5 +1,7 @@
 // The field of 64-bit words: polynomials over two elements modulo x^64 + x^4 + x^3 + x + 1, bit i the coefficient of x^i.
 // No routine reads a table.
+#![tactic(auto)]
+
 ghost use Rattle.std.specs.Prelude.{◌≡◌};
 ghost use Rattle.gf2.specs.Poly.{◌⊕◌};
 ghost use Rattle.gf2.specs.Residue.{mul, sq, frob, inv, root};
@@ -9,14 +11,14 @@ ghost use Rattle.gf64.specs.Answers.{inverse_of, quotient_of, dot_of};
 const ROOT_X: u64 = 0xffff_ffff_0000_000a;
 
 // An inverse or a quotient, or refusal 1.
-#[derive(Drop)]
+#[derive(Clone, Copy)]
 pub enum Inverse64 {
     Value(u64),
     NoInverse,
 }
 
 // A sum of products, or refusal 2.
-#[derive(Drop)]
+#[derive(Clone, Copy)]
 pub enum Dot64 {
     Value(u64),
     LengthsDiffer,

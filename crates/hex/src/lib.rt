@@ -1,10 +1,12 @@
 // Numbers in hexadecimal, as the programs take and give them: digits in upper or lower case, and lower case.
+#![tactic(auto)]
+
 ghost use mathlib.Core.Path.{◌≡◌};
 ghost use Prim.Native.Nat.{◌<◌};
 ghost use Rattle.hex.specs.Hex.{digit_of, hex_of, glyph_of, text_of};
 
 // A number read from a text, or that the text is no number.
-#[derive(Drop)]
+#[derive(Clone, Copy)]
 pub enum Hex {
     Value(u64),
     Bad,

@@ -1,4 +1,6 @@
 // Byte maps that keep XOR, as quadwords: output bit i is the parity of the input ANDed with byte 7 - i.
+#![tactic(auto)]
+
 ghost use Rattle.std.specs.Prelude.{◌≡◌, length, get_or};
 ghost use Rattle.gf2.specs.Bits.{tab};
 ghost use Rattle.spellings.specs.Quadword.{image};
@@ -11,7 +13,7 @@ const BIT_LADDER: u64 = 0x0102_0408_1020_4080;
 // The lowest bit of every byte. As a multiplier it puts one byte into all eight places.
 const SPREAD: u64 = 0x0101_0101_0101_0101;
 
-#[derive(Drop)]
+#[derive(Clone, Copy)]
 pub struct ByteMatrix(u64);
 
 impl ByteMatrix {

@@ -1,6 +1,8 @@
 // Recorded answers. A record is a line of eight words of sixteen hexadecimal digits, a blank after each and a line end after the last:
 // the call's number, its arguments, at most four, and the answer: a refusal's number, or 0 where the call accepts, and two words. A list
 // that a call takes stands in the lines after its record, eight entries a line.
+#![tactic(auto)]
+
 ghost use Rattle.std.specs.Prelude.{◌≡◌, ◌<◌, length};
 ghost use Rattle.answers.specs.Answer.{byte, word, wide, outcome, number, mapped};
 ghost use Rattle.records.specs.Lines.{word_at, line_of, agrees_of};
@@ -11,7 +13,7 @@ use answers::{Byte, Outcome, Refusal, Wide, Word};
 use hex::Hex;
 
 // A line as it was read.
-#[derive(Drop)]
+#[derive(Clone, Copy)]
 pub struct Line {
     // Whether all its words are numbers.
     pub good: bool,
@@ -20,7 +22,7 @@ pub struct Line {
 }
 
 // An answer as a record has it.
-#[derive(Drop)]
+#[derive(Clone, Copy)]
 pub struct Shown {
     pub number: u64,
     pub low: u64,
@@ -28,7 +30,7 @@ pub struct Shown {
 }
 
 // How many cases there were, and how many agreed: in all, and in the present group.
-#[derive(Drop)]
+#[derive(Clone, Copy)]
 pub struct Tally {
     pub cases: u64,
     pub agreed: u64,

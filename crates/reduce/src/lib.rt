@@ -1,5 +1,7 @@
 // The remainders of carryless products: what stands above the top coefficient, times the modulus's tail, is added to
 // what stands below, and what that spills over the top is folded the same way once more.
+#![tactic(auto)]
+
 ghost use Rattle.std.specs.Prelude.{◌≡◌, ◌+◌, ◌*◌, ◌^◌};
 ghost use Rattle.gf2.specs.Residue.{rem};
 ghost use Rattle.words.specs.Limbs.{value, limbs};

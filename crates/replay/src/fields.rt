@@ -6,7 +6,7 @@ use crate::scan::{Number, part};
 use crate::verdict::{Verdict, says};
 
 // How many numbers a line has before the `=`, and how many after it; none where the line cannot be read.
-#[derive(Drop)]
+#[derive(Clone, Copy)]
 pub(crate) struct Fields {
     pub given: usize,
     pub answers: usize,

@@ -2,6 +2,8 @@
 // and the answer, all numbers hexadecimal; the call is computed again by this repository's code. Prints for each group of
 // lines with one name how many agreed, and the sums at the end. A line that differs, or that cannot be read, is shown with
 // its number. A line that starts with # is a comment.
+#![tactic(auto)]
+
 mod byte;
 mod fields;
 mod map;

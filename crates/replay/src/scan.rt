@@ -2,7 +2,7 @@
 ghost use Rattle.std.specs.Prelude.{◌≤◌};
 
 // A word read as a hexadecimal number of at most 16 digits, in lower case.
-#[derive(Drop)]
+#[derive(Clone, Copy)]
 pub(crate) enum Number {
     Value(u64),
     Bad,

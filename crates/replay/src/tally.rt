@@ -2,7 +2,7 @@
 use crate::scan::part;
 use libc::STDOUT_FILENO;
 
-#[derive(Drop)]
+#[derive(Clone, Copy)]
 pub(crate) struct Tally {
     // How many lines there were.
     pub lines: u64,

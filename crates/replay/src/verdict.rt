@@ -1,6 +1,6 @@
 // What a recorded answer is worth.
 
-#[derive(Drop)]
+#[derive(Clone, Copy)]
 pub(crate) enum Verdict {
     // Our code gives the same answer.
     Agrees,

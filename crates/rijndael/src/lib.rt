@@ -1,4 +1,6 @@
 // The byte field: polynomials over GF(2) modulo x^8 + x^4 + x^3 + x + 1.
+#![tactic(auto)]
+
 mod bytes;
 
 ghost use Rattle.std.specs.Prelude.{◌≡◌, [], ◌∷◌};
@@ -14,32 +16,32 @@ ghost use Rattle.rijndael.specs.Write.{write_of, bytes_after};
 pub use bytes::{invert_byte, mul_bytes};
 
 // An element of the field. Bit i is the coefficient of x^i, and every byte is an element.
-#[derive(Drop)]
+#[derive(Clone, Copy)]
 pub struct Rijndael8b(u8);
 
 // What inverting or dividing answers: the value, or refusal 1.
-#[derive(Drop)]
+#[derive(Clone, Copy)]
 pub enum Inverse8 {
     Value(Rijndael8b),
     NoInverse,
 }
 
 // What asking for an interpolation node answers: the value, or refusal 3.
-#[derive(Drop)]
+#[derive(Clone, Copy)]
 pub enum Node {
     Value(Rijndael8b),
     BadIndex,
 }
 
 // What reading answers: the value, or refusal 4.
-#[derive(Drop)]
+#[derive(Clone, Copy)]
 pub enum Read8 {
     Value(Rijndael8b),
     Short,
 }
 
 // What writing answers: done, or refusal 4.
-#[derive(Drop)]
+#[derive(Clone, Copy)]
 pub enum Written {
     Done,
     Short,

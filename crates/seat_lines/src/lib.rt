@@ -1,4 +1,6 @@
 // What `seats` shows of a map: a line of its picture, a row of the coach before and after a swap; and its fingerprint.
+#![tactic(auto)]
+
 ghost use mathlib.Core.Path.{◌≡◌};
 ghost use Prim.Native.Nat.{◌*◌, ◌<◌};
 ghost use Rattle.answers.specs.Answer.{word};

@@ -5,6 +5,8 @@
 // QUADWORD is the swap, a byte matrix, and POINT the fingerprint's point, each in hexadecimal. The map on standard input has one
 // byte a row, at most 32,768 rows: eight rows are a word, and a fingerprint is of at most 4,096 words. Nothing is drawn before the
 // whole map has been read and its length tested.
+#![tactic(auto)]
+
 use coach::{Hex, Packed};
 use fingerprint::Print;
 use libc::{STDIN_FILENO, STDOUT_FILENO};

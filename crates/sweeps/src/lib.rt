@@ -1,11 +1,13 @@
 // Sweeps over lent bytes, read as elements of the byte field: one plain loop each.
+#![tactic(auto)]
+
 ghost use Rattle.std.specs.Prelude.{◌≡◌, length, get_or};
 ghost use Rattle.gf2.specs.Bits.{tab};
 ghost use Rattle.gf2.specs.Residue.{inv};
 ghost use Rattle.sweeps.specs.Products.{answer, products};
 
 // What a sweep over two lists answers: done, or refusal 2.
-#[derive(Drop)]
+#[derive(Clone, Copy)]
 pub enum Swept2 {
     Done,
     LengthsDiffer,

@@ -1,5 +1,7 @@
 // The tower byte: bytes over the generators X0, X1, X2, where each Xk squared is X(k-1) Xk + 1 and X(-1) is 1; and the
 // change of basis to the byte field and back.
+#![tactic(auto)]
+
 ghost use Rattle.std.specs.Prelude.{◌≡◌, ◌≤◌, ◌<◌};
 ghost use Rattle.gf2.specs.Poly.{◌⊕◌};
 ghost use Rattle.towers.specs.Level.{size, lo, hi, join};
@@ -81,7 +83,7 @@ fn tower_mul(a: u8, b: u8, level: u32) -> u8
 }
 
 // A byte of the tower. Bit j is the coefficient of the product of the generators that the bits of j name.
-#[derive(Drop)]
+#[derive(Clone, Copy)]
 pub struct BinaryField8(u8);
 
 impl BinaryField8 {

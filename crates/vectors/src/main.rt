@@ -1,5 +1,7 @@
 // Document 01's table of cases and FIPS 197's worked products, run by the code: each line is a case and the answer. What must come
 // out is stored beside, in `stdout`. (The starred rows are proved of the definitions too, in crate `cases`.)
+#![tactic(auto)]
+
 use fingerprint::Print;
 use frobenius::LinearizedPoly8b;
 use libc::STDOUT_FILENO;

@@ -1,11 +1,13 @@
 // Total functions on machine words.
+#![tactic(auto)]
+
 ghost use Rattle.std.specs.Prelude.{◌≡◌, ◌*◌, ◌%◌, ◌^◌};
 ghost use Rattle.gf2.specs.Poly.{spread};
 ghost use Rattle.words.specs.Words.{rev, compact};
 ghost use Rattle.words.specs.Limbs.{limbs};
 
 // Two 64-bit limbs, the low one first: a product of two words, or an element of 128 bits.
-#[derive(Drop)]
+#[derive(Clone, Copy)]
 pub struct Limbs {
     pub low: u64,
     pub high: u64,

@@ -1,0 +1,24 @@
+use mathlib.Core.Path.{◌≡◌, sym, ap, ◌∙◌}
+use mathlib.Core.List.{List}
+use Prim.Native.Nat.{ℕ, ◌-◌, ◌/◌, ◌%◌, ◌^◌, ◌≤◌}
+use native.Mathlib.Omega.{arith}
+use lib.Bits.{and_le_r}
+use lib.ListN.{get_or}
+use borrow.Author.Rules.{rules}
+use Rattle.gf2.specs.Poly.{coef}
+use Rattle.gf2.specs.Bits.{poly}
+use Rattle.gf2.specs.Linear.{apply}
+use Rattle.spellings.specs.Quadword.{find_quadword}
+use Rattle.gf2.proofs.Shift.{coef-lt}
+use Rattle.gf2.proofs.Bits.{poly-nil, poly_turn, coef_mask}
+use Rattle.spellings.proofs.Images.{apply-pow}
+use Rattle.matrix.proofs.ByteMatrix.from_images.Given as goal
+
+abbrev pub bits : List ℕ → ℕ → ℕ
+bits l k = coef (apply l (2 ^ (k % 8))) (7 - k / 8)
+
+abbrev pub invariant-loop-k : goal.invariant-loop-k
+invariant-loop-k l = (l.k ≤ 64) × (l.quadword ≡ poly l.k (bits l.images))
+
+abbrev pub decreases-loop-k : goal.decreases-loop-k
+decreases-loop-k l = 64 - l.k

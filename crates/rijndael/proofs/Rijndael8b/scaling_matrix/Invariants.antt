@@ -1,0 +1,12 @@
+use Rattle.std.proofs.Common.{◌≡◌, ◌-◌, ◌^◌, ◌≤◌, refl, ap, ◌∙◌, arith, rules}
+use Rattle.gf2.specs.Residue.{mul}
+use Rattle.gf2.proofs.Bits.{shl_one}
+use Rattle.gf2.proofs.Table.{Filled, filled_none, filled_turn, filled_all}
+use Rattle.rijndael.proofs.Scaling.{scaling_images}
+use Rattle.rijndael.proofs.Rijndael8b.scaling_matrix.Given as goal
+
+abbrev pub invariant-loop-b : goal.invariant-loop-b
+invariant-loop-b l = (l.b ≤ 8) × Filled 8 (λ k. mul 8 0x1b l.self.0 (2 ^ k)) 0 l.images l.b
+
+abbrev pub decreases-loop-b : goal.decreases-loop-b
+decreases-loop-b l = 8 - l.b

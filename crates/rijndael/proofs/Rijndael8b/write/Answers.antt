@@ -1,0 +1,10 @@
+-- `rijndael::Rijndael8b::write` meets its contract: there is no byte, or the first one is stored. Assumes nothing.
+use Rattle.std.proofs.Common.{rules}
+use Rattle.rijndael.proofs.Lent.{write_none, write_some}
+use Rattle.rijndael.proofs.Rijndael8b.write.Goals as goal
+
+pub returns-then-d-lt1 : goal.returns-then-d-lt1
+returns-then-d-lt1 c = write_none c.args.self.0 c.args.d.now c.if-d-lt1.true
+
+pub returns : goal.returns
+returns c = write_some c.args.self.0 c.args.d.now c.if-d-lt1.false
