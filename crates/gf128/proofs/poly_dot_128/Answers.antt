@@ -44,9 +44,9 @@ loop-i-preserved c =
     let p = c.wide_mul_128-product.ensures in (
       omega arith,
       c.add_128-low.ensures
-          ∙ turn_low e.a.now e.b.now l.i x.result y.result x.ensures y.ensures l.invariant.1 p.0,
+          ∙ turn_low e.a.now e.b.now l.i x.result y.result x.ensures y.ensures l.invariant.1 p.low,
       c.add_128-high.ensures
-          ∙ turn_high e.a.now e.b.now l.i x.result y.result x.ensures y.ensures l.invariant.2 p.1,
+          ∙ turn_high e.a.now e.b.now l.i x.result y.result x.ensures y.ensures l.invariant.2 p.high,
     )
 
 pub returns : goal.returns

@@ -13,10 +13,10 @@ pub returns : goal.returns
 unfolding mul
 returns c =
     let x = c.args in
-    let a₀ : x.a.low-1 < 2 ^ 64 = omega arith in
-    let a₁ : x.a.high-1 < 2 ^ 64 = omega arith in
-    let b₀ : x.b.low-1 < 2 ^ 64 = omega arith in
-    let b₁ : x.b.high-1 < 2 ^ 64 = omega arith in
+    let a₀ : x.a.low < 2 ^ 64 = omega arith in
+    let a₁ : x.a.high < 2 ^ 64 = omega arith in
+    let b₀ : x.b.low < 2 ^ 64 = omega arith in
+    let b₁ : x.b.high < 2 ^ 64 = omega arith in
     c.reduce_128.ensures
     ∙ rem_halves (cmul (value x.a) (value x.b)) (cmul_values_lt (value-lt x.a a₀ a₁) (value-lt x.b b₀ b₁))
-    c.wide_mul_128-product.ensures.0 c.wide_mul_128-product.ensures.1
+    c.wide_mul_128-product.ensures.low c.wide_mul_128-product.ensures.high

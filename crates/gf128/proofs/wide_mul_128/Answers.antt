@@ -14,4 +14,4 @@ returns c =
     let l = c.clmul_64x64-l.ensures in
     let h = c.clmul_64x64-h.ensures in
     let m = c.clmul_64x64-m.ensures in
-    (karatsuba_low x.a x.b a₀ a₁ b₀ b₁ l h m, karatsuba_high x.a x.b a₀ a₁ b₀ b₁ l h m)
+    record { low = karatsuba_low x.a x.b a₀ a₁ b₀ b₁ l h m; high = karatsuba_high x.a x.b a₀ a₁ b₀ b₁ l h m }

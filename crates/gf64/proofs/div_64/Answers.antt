@@ -6,10 +6,9 @@ use Rattle.gf64.specs.Answers.{times_inverse}
 use Rattle.gf64.proofs.div_64.Goals as goal
 
 pub returns-in_default : goal.returns-in_default
-returns-in_default c = ap (times_inverse c.args.a) (sym c.enum_told-1.given.1 ∙ c.try_inverse_64.ensures)
+returns-in_default c = ap (times_inverse c.args.a) c.in_default.ensures
 
 pub returns : goal.returns
 returns c =
     ap Value c.poly_mul_64.ensures
-    ∙ ap (times_inverse c.args.a)
-    (sym c.inverse-1.given.1 ∙ c.try_inverse_64.ensures)
+    ∙ ap (times_inverse c.args.a) c.in-Value.ensures

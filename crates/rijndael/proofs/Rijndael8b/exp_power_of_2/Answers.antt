@@ -17,5 +17,5 @@ pub returns : goal.returns
 returns c =
     let l = c.loop-i in
     let a = c.args in
-    let e : l.i ≡ a.power-log % 8 = omega arith in
-    (rw e at l.invariant.1) ∙ sym (frob_remainder a.power-log a.self.0 (search rules))
+    let e : l.i ≡ a.power_log % 8 = omega arith in
+    (rw e at l.invariant.1) ∙ sym (frob_remainder a.power_log a.self.0 (search rules))

@@ -20,7 +20,7 @@ loop-i-preserved c =
     let b = c.args.b in
     let r = c.wrapping_sub_u16-selected in (
       search rules,
-      cmul_turn a b l.i l.invariant.1 (shl_select 8 l.i 16 a r.result (b / 2 ^ l.i) (search rules) (omega arith) (search rules) r.ensures),
+      cmul_turn a b l.i l.invariant.1 (shl_select 8 l.i 16 a r.result (b / 2 ^ l.i) (search rules) (omega arith) (search rules) r.ensures.value),
     )
 
 pub returns : goal.returns

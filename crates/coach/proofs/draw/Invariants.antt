@@ -1,0 +1,13 @@
+use mathlib.Core.Path.{◌≡◌, refl}
+use Prim.Native.Nat.{◌≤◌, ◌-◌}
+use native.Mathlib.Omega.{arith}
+use Rattle.coach.specs.Rows.{seat_of, drawn}
+use Rattle.gf2.proofs.Table.{Filled, filled_none, filled_turn, filled_all}
+use borrow.Author.Rules.{rules}
+use Rattle.coach.proofs.draw.Given as goal
+
+abbrev pub invariant-loop-i : goal.invariant-loop-i
+invariant-loop-i l = (l.i ≤ 8) × Filled 8 (seat_of l.row) 0 l.picture l.i
+
+abbrev pub decreases-loop-i : goal.decreases-loop-i
+decreases-loop-i l = 8 - l.i

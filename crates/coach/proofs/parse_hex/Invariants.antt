@@ -1,0 +1,16 @@
+use mathlib.Core.Path.{◌≡◌, refl, sym, ap, ◌∙◌}
+use mathlib.Core.Bool.{true}
+use Prim.Native.Nat.{◌+◌, ◌*◌, ◌^◌, ◌≤◌, ◌<◌, ◌-◌}
+use native.Mathlib.Omega.{arith}
+use lib.ListN.{length}
+use Rattle.coach.specs.Hex.{digits, number as number_of}
+use Rattle.coach.specs.declared.Hex.TheVariants.{Value}
+use Rattle.coach.proofs.Digits.{digits_more, number_more, number_lt, fits, hex_empty, hex_long, hex_bad, hex_good}
+use borrow.Author.Rules.{rules}
+use Rattle.coach.proofs.parse_hex.Given as goal
+
+abbrev pub invariant-loop-i : goal.invariant-loop-i
+invariant-loop-i l = (l.i ≤ length l.text) × (digits l.i l.text ≡ true) × (l.number ≡ number_of l.i l.text) × (l.number < 2 ^ (4 * l.i))
+
+abbrev pub decreases-loop-i : goal.decreases-loop-i
+decreases-loop-i l = length l.text - l.i

@@ -1,0 +1,17 @@
+use mathlib.Core.Path.{◌≡◌, sym, ap, ◌∙◌}
+use Prim.Native.Nat.{ℕ, ◌+◌, ◌-◌, ◌*◌, ◌/◌, ◌%◌, ◌^◌, ◌≤◌}
+use native.Mathlib.Nat.{div-one}
+use native.Mathlib.Omega.{arith}
+use borrow.Author.Rules.{rules}
+use lib.Pow.{shr-shr}
+use lib.ListN.{length}
+use lib.Seq.{paste, paste-zero}
+use Rattle.endian.specs.Bytes.{bytes_of}
+use Rattle.endian.proofs.Bytes.{put_turn, length_put}
+use Rattle.endian.proofs.put_at.Given as goal
+
+abbrev pub invariant-loop-i : goal.invariant-loop-i
+invariant-loop-i l = (l.i ≤ 8) × (l.rest ≡ l.v / 2 ^ (8 * l.i)) × (l.d ≡ paste l.initial.d l.at (bytes_of 8 l.v) l.i)
+
+abbrev pub decreases-loop-i : goal.decreases-loop-i
+decreases-loop-i l = 8 - l.i

@@ -1,0 +1,15 @@
+use mathlib.Core.Path.{◌≡◌, sym}
+use Prim.Native.Nat.{◌+◌, ◌-◌, ◌≤◌}
+use native.Mathlib.Omega.{arith}
+use borrow.Author.Rules.{rules}
+use lib.ListN.{drop}
+use lib.Seq.{get_or-drop}
+use Rattle.endian.specs.Bytes.{word_of}
+use Rattle.endian.proofs.Bytes.{Bytes, word_of_none, word_of_turn}
+use Rattle.endian.proofs.word_at.Given as goal
+
+abbrev pub invariant-loop-i : goal.invariant-loop-i
+invariant-loop-i l = (l.i ≤ 8) × (l.word ≡ word_of l.i (drop l.at l.s))
+
+abbrev pub decreases-loop-i : goal.decreases-loop-i
+decreases-loop-i l = 8 - l.i

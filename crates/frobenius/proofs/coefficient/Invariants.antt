@@ -1,0 +1,23 @@
+use mathlib.Core.Path.{◌≡◌, refl, ap, ◌∙◌}
+use mathlib.Core.List.{List}
+use Prim.Native.Nat.{ℕ, ◌-◌, ◌≤◌}
+use native.Mathlib.Omega.{arith}
+use lib.ListN.{get_or}
+use borrow.Author.Rules.{rules}
+use Rattle.gf2.specs.Poly.{xsum}
+use Rattle.gf2.specs.Residue.{mul, frob}
+use Rattle.gf2.proofs.Sum.{xsum_turn}
+use Rattle.spellings.specs.Lists.{times, dual8}
+use Rattle.spellings.specs.Quadword.{find_quadword}
+use Rattle.frobenius.proofs.Frobenius.{frobenius-image}
+use Rattle.spellings.proofs.Dual8.{dual8-lt}
+use Rattle.frobenius.proofs.coefficient.Given as goal
+
+abbrev pub term : List ℕ → ℕ → ℕ → ℕ
+term l j b = mul 8 0x1b (get_or l b 0) (frob 8 0x1b j (get_or dual8 b 0))
+
+abbrev pub invariant-loop-b : goal.invariant-loop-b
+invariant-loop-b l = (l.b ≤ 8) × (l.map.0 ≡ find_quadword (frob 8 0x1b l.j)) × (l.sum ≡ xsum l.b (term l.images l.j))
+
+abbrev pub decreases-loop-b : goal.decreases-loop-b
+decreases-loop-b l = 8 - l.b
