@@ -18,7 +18,7 @@ returns-then-count-words c =
     let n = c.words_for-count in
     let h : length a.words.now < words_for_rows (length a.rows.now) = omega (arith, n.ensures) in
     let e = packed_short a.rows.now a.words.now h in
-    (sym e.0, sym e.1)
+    record { answer = sym e.0; words = sym e.1 }
 
 pub loop-i-init : goal.loop-i-init
 loop-i-init c = (search rules, swept_none)
@@ -40,4 +40,5 @@ returns c =
     let a = c.args in
     let n = c.words_for-count in
     let e : l.i ≡ n.result = omega arith in
-    packed_done a.rows.now a.words.now n.ensures (omega arith) (rw e at l.invariant.1)
+    let d = packed_done a.rows.now a.words.now n.ensures (omega arith) (rw e at l.invariant.1) in
+    record { answer = d.0; words = d.1 }

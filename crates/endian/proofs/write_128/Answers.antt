@@ -11,16 +11,16 @@ use Rattle.endian.proofs.Place.{put_front, put_next, bytes_of-value}
 use Rattle.endian.proofs.write_128.Goals as goal
 
 pub returns-then-d-lt16 : goal.returns-then-d-lt16
-returns-then-d-lt16 c = simp (lt-leb _ _ c.if-d-lt16.true) (refl, refl)
+returns-then-d-lt16 c = simp (lt-leb _ _ c.if-d-lt16.true) (record { answer = refl; bytes = refl })
 
 pub returns : goal.returns
 returns c =
     let a = c.args in
-    let d = a.d-1.now in
-    simp (le-leb _ _ c.if-d-lt16.false) (
-      refl,
-      c.put_at-2.ensures
+    let d = a.d.now in
+    simp (le-leb _ _ c.if-d-lt16.false) (record {
+      answer = refl;
+      bytes = c.put_at-2.ensures
           ∙ ap (λ (s : List ℕ). paste s 8 (bytes_of 8 a.v.high) 8) (c.put_at.ensures ∙ put_front 8 a.v.low d)
           ∙ put_next 8 8 a.v.low a.v.high d
-          ∙ ap (λ (s : List ℕ). s ++ drop 16 d) (sym (bytes_of-value a.v (search rules))),
-    )
+          ∙ ap (λ (s : List ℕ). s ++ drop 16 d) (sym (bytes_of-value a.v (search rules)));
+    })

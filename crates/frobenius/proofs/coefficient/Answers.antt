@@ -26,9 +26,9 @@ loop-b-preserved c =
     let a = c.args in (
       search rules,
       l.invariant.1,
-      xsum_turn l.b (term a.t1 a.j) l.invariant.2
+      xsum_turn l.b (term a.images a.j) l.invariant.2
           (c.mul_bytes-sum.ensures
-          ∙ ap (mul 8 0x1b (get_or a.t1 l.b 0))
+          ∙ ap (mul 8 0x1b (get_or a.images l.b 0))
           (frobenius-image a.j (get_or dual8 l.b 0) (dual8-lt l.b (search rules)) l.invariant.1 c.apply.ensures)),
     )
 

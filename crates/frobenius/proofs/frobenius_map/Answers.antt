@@ -6,4 +6,4 @@ use Rattle.frobenius.proofs.frobenius_map.Goals as goal
 
 pub returns : goal.returns
 unfolding frobenius
-returns c = c.from_quadword.ensures ∙ frobenius_rule c.args.power-log
+returns c = c.from_quadword.ensures ∙ frobenius_rule c.args.power_log

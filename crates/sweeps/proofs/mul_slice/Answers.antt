@@ -12,7 +12,7 @@ use Rattle.gf2.proofs.Sweep.{Swept, swept_none, swept_turn, swept_all}
 use Rattle.sweeps.proofs.mul_slice.Goals as goal
 
 pub returns-then-dst-src : goal.returns-then-dst-src
-returns-then-dst-src c = simp (ne_eqb _ _ c.if-dst-src.true) (refl, refl)
+returns-then-dst-src c = simp (ne_eqb _ _ c.if-dst-src.true) (record { answer = refl; bytes = refl })
 
 pub loop-i-init : goal.loop-i-init
 loop-i-init c = (search rules, swept_none)
@@ -27,4 +27,4 @@ loop-i-preserved c =
 pub returns : goal.returns
 returns c =
     let l = c.loop-i in
-    simp (eq-eqb _ _ c.if-dst-src.false) (refl, swept_all l.invariant.1 (omega (arith, l.invariant.1.filled.size)))
+    simp (eq-eqb _ _ c.if-dst-src.false) (record { answer = refl; bytes = swept_all l.invariant.1 (omega (arith, l.invariant.1.filled.size)) })

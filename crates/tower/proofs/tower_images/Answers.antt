@@ -22,8 +22,11 @@ loop-j-init c = (search rules, search rules, record { size = refl; done = first 
 pub overflow_cast-lowest : goal.overflow_cast-lowest
 overflow_cast-lowest c = let l = c.loop-j in omega (arith, lowest_lt l.j c.loop-j-test.true (λ e. omega arith))
 
+pub bounds-lowest : goal.bounds-lowest
+bounds-lowest c = let l = c.loop-j in lowest_lt l.j c.loop-j-test.true (λ e. omega arith)
+
 pub bounds-images-j : goal.bounds-images-j
-bounds-images-j c = let l = c.loop-j in lowest_lt l.j c.loop-j-test.true (λ e. omega arith)
+bounds-images-j c = let j = c.loop-j.j in omega (arith, and_le_r j (j - 1))
 
 pub loop-j-preserved : goal.loop-j-preserved
 unfolding xi

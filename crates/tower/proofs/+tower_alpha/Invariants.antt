@@ -1,0 +1,4 @@
+use Rattle.tower.proofs.+tower_alpha.Given as goal
+
+abbrev pub decreases-tower_alpha : goal.decreases-tower_alpha
+decreases-tower_alpha l = l.level

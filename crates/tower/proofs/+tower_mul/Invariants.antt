@@ -1,0 +1,4 @@
+use Rattle.tower.proofs.+tower_mul.Given as goal
+
+abbrev pub decreases-tower_mul : goal.decreases-tower_mul
+decreases-tower_mul l = l.level
