@@ -1,0 +1,7 @@
+-- `togasipe::map::togasipe_linearized_from_matrix` meets its contract: the answer of the call below crosses as it is. Assumes nothing.
+use Rattle.spellings.specs.Kinds.{Quadword, Coefficients, turn}
+use Rattle.frobenius.proofs.Elements.{bytes-elements}
+use Rattle.togasipe.proofs.map.togasipe_linearized_from_matrix.Goals as goal
+
+pub returns : goal.returns
+returns c = cc (bytes-elements (turn Quadword Coefficients c.args.quadword))

@@ -1,9 +1,0 @@
--- `togasipe::word::togasipe_poly_dot_64` meets its contract: the answer of the call below crosses as it is. Assumes nothing.
-use Rattle.togasipe.proofs.word.togasipe_poly_dot_64.Statement.{statement}
-use Rattle.togasipe.proofs.word.togasipe_poly_dot_64.Tie as tie
-
-returns : tie.Need-returns
-returns c = (cc, cc)
-
-pub togasipe-poly-dot-64-spec : {M : Type 1} → statement M
-togasipe-poly-dot-64-spec = tie.close (tie.spec (λ c κs. tt) (λ c κs. tt) returns)
