@@ -1,7 +1,7 @@
 /*
  * togasipe.h: arithmetic in binary fields, byte maps and fingerprints, for C and C++.
  *
- * `rt staticlib togasipe` writes the library, target/staticlib/libtogasipe.a, for x86-64 Linux. It
+ * `tools/library.sh` writes the library, target/staticlib/libtogasipe.a, for x86-64 Linux. It
  * needs no other library:
  *
  *     cc -Iinclude program.c target/staticlib/libtogasipe.a

@@ -9,7 +9,7 @@ source=${TOGASIPE_RUST_SRC:-$root/../shared/docs/src}
 
 leave_out() {
     echo "compare: left out: $1"
-    exit 0
+    exit 77
 }
 
 [ -d "$source/src" ] || leave_out "the given Rust is not at $source (TOGASIPE_RUST_SRC names another folder)"

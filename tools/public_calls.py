@@ -79,9 +79,9 @@ def theorems_of(crate):
     if not path.exists():
         return set()
     text = path.read_text()
-    aliases = dict((alias, module) for module, alias in re.findall(r'(?m)^use Rattle·\w+·proofs\.proofs\.(\S+)\.Reads as (\S+)$', text))
+    aliases = dict((alias, module) for module, alias in re.findall(r'(?m)^use Rattle\.\w+\.proofs\.(\S+)\.Reads as (\S+)$', text))
     proved = set()
-    for statement in re.findall(r'(?ms)^pub \S+-unique :(.*?)^\S', text):
+    for statement in re.findall(r'(?ms)^pub \S+_unique :(.*?)^\S', text):
         for alias, module in aliases.items():
             if len(re.findall(r'(?<![\w-])' + re.escape(alias) + r'\.Post\b', statement)) >= 2 and '≡' in statement:
                 proved.add(module)

@@ -9,7 +9,7 @@ source=${TOGASIPE_RUST_SRC:-$root/../shared/docs/src}
 
 command -v cargo > /dev/null || {
     echo "wrapper: left out: there is no cargo"
-    exit 0
+    exit 77
 }
 
 mkdir -p "$out"

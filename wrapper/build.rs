@@ -13,7 +13,7 @@ fn main() {
     println!("cargo::rerun-if-changed={}", archive.display());
     if !archive.is_file() {
         println!(
-            "cargo::error=there is no {}: run `rt staticlib togasipe` in the repository, or name the folder of \
+            "cargo::error=there is no {}: run `tools/library.sh` in the repository, or name the folder of \
              libtogasipe.a in TOGASIPE_LIB_DIR",
             archive.display()
         );
@@ -30,7 +30,7 @@ fn main() {
     }
 }
 
-/// The folder that TOGASIPE_LIB_DIR names, or the one that `rt staticlib` writes to beside this package.
+/// The folder that TOGASIPE_LIB_DIR names, or the one that `tools/library.sh` writes to beside this package.
 fn library_folder() -> PathBuf {
     if let Some(folder) = env::var_os("TOGASIPE_LIB_DIR") {
         return PathBuf::from(folder);

@@ -25,7 +25,7 @@ NUMBERS = {'bool': 'bool', 'usize': 'size_t', 'isize': 'ptrdiff_t'}
 NUMBERS.update({f'{sign}{bits}': f'{"u" if sign == "u" else ""}int{bits}_t' for sign in 'ui' for bits in (8, 16, 32, 64)})
 
 EXPORT = re.compile(
-    r'#\[no_mangle\]\s*pub\s+extern\s+"C"\s+fn\s+(?P<name>\w+)\s*\((?P<parameters>[^)]*)\)\s*(?:->\s*(?P<result>\w+))?')
+    r'#\[unsafe\(no_mangle\)\]\s*pub\s+extern\s+"C"\s+fn\s+(?P<name>\w+)\s*\((?P<parameters>[^)]*)\)\s*(?:->\s*(?P<result>\w+))?')
 REFERENCE = re.compile(r'&\s*(?P<mut>mut\b)?\s*(?:\[\s*(?P<element>\w+)\s*(?:;\s*(?P<count>\d+)\s*)?\]|(?P<one>\w+))')
 
 
@@ -55,7 +55,7 @@ def exported():
     found = {}
     for path in sorted(SOURCES.rglob('*.rt')):
         text = re.sub(r'//[^\n]*', '', path.read_text())
-        if text.count('#[no_mangle]') != len(EXPORT.findall(text)):
+        if text.count('no_mangle') != len(EXPORT.findall(text)):
             raise ValueError(f'{path}: an exported function is not understood')
         for export in EXPORT.finditer(text):
             pairs = [p.split(':', 1) for p in export['parameters'].split(',') if p.strip()]
