@@ -4,10 +4,13 @@
     python3 tools/reproof.py               what each crate costs, and what an edit of it proves again, as Markdown tables
     python3 tools/reproof.py --try CRATE.. the same, and then edits the code, the laws and the definitions of these crates in turn
 
-Works on a copy of the repository, so nothing here changes. The first form proves everything once and works out from crates.txt
-what stands on what: `rt` proves a crate again where its files or something it stands on changed. The second form measures that: it adds one comment line to one file of each kind, runs `rt check`, notes which crates were proved again and how long that took,
-and puts the built state back. A crate without code of its own, or without definitions, has no such row. One job at a time
-(RT_JOBS=1), so the seconds are one core's.
+Works on a copy of the repository without the must-fail edits, so nothing here changes. The first form proves everything once, from
+nothing (`rt ci --anew`), and works out from crates.txt what stands on what: `rt` proves a crate again where its files changed, or what it
+reads of a library that it stands on, so an edit proves again at most the crates above. The second form measures that: it puts one comment
+line before one file of each kind, runs `rt ci`, notes which crates were proved again and how long that took, and takes the line out
+again. The line is another one in each run, since `rt` keeps what it has once proved. A crate without code of its own, or without
+definitions, has no such row. One job at a time (RT_JOBS=1), so the seconds are one core's: those between the line that `rt` writes of a
+crate and the line before it.
 """
 import os
 import pathlib
@@ -16,23 +19,33 @@ import shutil
 import subprocess
 import sys
 import tempfile
+import time
 
 ROOT = pathlib.Path(__file__).resolve().parent.parent
-PROVED = re.compile(r'^rt: (\w+) proved \((\d+) s\)$', re.M)
+PROVED = re.compile(r'^rt: (\w+)(?:: its tests are)? proved$')
+KEPT = re.compile(r'^rt: \w+ is kept: ')
 
 
-def check(copy):
-    """The crates that `rt check` proves now, with their seconds."""
-    run = subprocess.run(['rt', 'check'], cwd=copy, env=dict(os.environ, RT_JOBS='1'), capture_output=True, text=True)
-    if run.returncode:
-        sys.exit('reproof: the copy is not proved:\n' + run.stdout[-2000:] + run.stderr[-2000:])
-    return {name: int(seconds) for name, seconds in PROVED.findall(run.stdout)}
+def check(copy, *words):
+    """The crates that `rt ci` proves now, with their seconds."""
+    run = subprocess.Popen(['rt', 'ci', *words], cwd=copy, env=dict(os.environ, RT_JOBS='1'), stdout=subprocess.PIPE, stderr=subprocess.STDOUT, text=True)
+    began, found, said = time.monotonic(), {}, []
+    for line in run.stdout:
+        said.append(line)
+        proved = PROVED.match(line)
+        if proved:
+            found[proved[1]] = found.get(proved[1], 0) + time.monotonic() - began
+        if proved or KEPT.match(line):
+            began = time.monotonic()
+    if run.wait():
+        sys.exit('reproof: the copy is not proved:\n' + ''.join(said)[-2000:])
+    return {name: round(seconds) for name, seconds in found.items()}
 
 
 def needs():
     """crate -> the crates of this repository that it names in crates.txt."""
     lines = [line.split('#')[0] for line in (ROOT / 'crates.txt').read_text().splitlines()]
-    named = {line.split(':')[0].strip(): line.split(':')[1].split() for line in lines if ':' in line}
+    named = {line.split(':')[0].split()[0]: line.split(':')[1].split() for line in lines if ':' in line}
     return {name: [d for d in deps if d in named] for name, deps in named.items()}
 
 
@@ -59,39 +72,34 @@ def edits(crate):
 
 def tables(full):
     deps = needs()
-    print('| crate | full check, seconds | an edit of it proves again | seconds |\n|---|---|---|---|')
+    print('| crate | full check, seconds | an edit of it proves again, at most | seconds |\n|---|---|---|---|')
     for name, seconds in full.items():
         again = [n for n in full if n in above(name, deps)]
         print(f'| `{name}` | {seconds} | {len(again)} of {len(full)} crates | {sum(full[n] for n in again)} |')
     print(f'| all | {sum(full.values())} | | |', flush=True)
 
 
-def tries(copy, scratch, names):
-    kept = scratch / 'kept'
-    shutil.copytree(copy / 'target', kept, symlinks=True)
+def tries(copy, names):
     print('| edit of | its | crates proved again | seconds |\n|---|---|---|---|')
     for name in names:
         for kind, path, mark in edits(copy / 'crates' / name):
             text = path.read_text()
-            path.write_text(text + f'{mark} An edit that changes no meaning.\n')
+            path.write_text(f'{mark} An edit that changes no meaning, number {time.time_ns()}.\n' + text)
             again = check(copy)
             path.write_text(text)
-            shutil.rmtree(copy / 'target')
-            shutil.copytree(kept, copy / 'target', symlinks=True)
             listed = ', '.join(f'`{n}`' for n in again) or 'none'
             print(f'| `{name}` | {kind} | {len(again)}: {listed} | {sum(again.values())} |', flush=True)
 
 
 def main():
     with tempfile.TemporaryDirectory() as made:
-        scratch = pathlib.Path(made)
-        copy = scratch / 'repository'
-        shutil.copytree(ROOT, copy, ignore=shutil.ignore_patterns('target', '.git'))
-        full = check(copy)
+        copy = pathlib.Path(made) / 'repository'
+        shutil.copytree(ROOT, copy, ignore=shutil.ignore_patterns('target', 'out', '.git', 'must-fail'))
+        full = check(copy, '--anew')
         tables(full)
         if '--try' in sys.argv:
             print()
-            tries(copy, scratch, sys.argv[sys.argv.index('--try') + 1:])
+            tries(copy, sys.argv[sys.argv.index('--try') + 1:])
 
 
 if __name__ == '__main__':
