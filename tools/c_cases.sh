@@ -1,6 +1,6 @@
 #!/usr/bin/env bash
 # The C header at work: builds the static library, holds include/togasipe.h to it, and compiles, links and runs the program of
-# tools/c, which knows the header only. The last line counts the program's cases, or says what was left out and why.
+# tools/c, which knows the header only. The last line counts the program's cases, or says what was left out and why (status 77).
 #     CC and CXX name other compilers.
 set -eu
 cd "$(dirname "$0")/.."

@@ -1,6 +1,6 @@
 #!/bin/sh
 # Compares the library with the given Rust, at scale: builds the oracle, the library and the comparison, and runs it.
-# The last line says how many answers were compared, or that the comparison was left out and why.
+# The last line says how many answers were compared, or that the comparison was left out and why (status 77).
 set -eu
 cd "$(dirname "$0")/.."
 root=$PWD

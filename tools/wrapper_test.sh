@@ -1,6 +1,6 @@
 #!/bin/sh
 # Tests the Rust package in wrapper/: builds the library, and the given Rust where it is at hand, and runs the package's
-# tests, the comparison at scale among them. The last line counts them, or says that they were left out and why.
+# tests, the comparison at scale among them. The last line counts them, or says that they were left out and why (status 77).
 set -eu
 cd "$(dirname "$0")/.."
 root=$PWD
