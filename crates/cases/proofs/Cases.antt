@@ -36,5 +36,5 @@ cases =
       square_64 = refl;
       root_64 = root_64;
       square_128_low = refl;
-      square-128-high = refl;
+      square_128_high = refl;
     }

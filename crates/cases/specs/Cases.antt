@@ -31,5 +31,5 @@ pub record Cases : Type 0 where
   pub root_64 : root 64 0x1b 2 ≡ 0xffffffff0000000a
   -- 128 bits: two squares
   pub square_128_low : sq 128 0x87 (value record { low = 0; high = 1 }) ≡ value record { low = 0x87; high = 0 }
-  pub square-128-high :
+  pub square_128_high :
       sq 128 0x87 (value record { low = 0; high = 0x8000000000000000 }) ≡ value record { low = 0x1067; high = 0xc000000000000000 }

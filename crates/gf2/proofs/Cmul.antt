@@ -7,7 +7,7 @@ use lib.Arith.{bin_ind}
 use lib.Pow.{pow_mono}
 use lib.Bits.{xor_zero_r, xor_comm, xor_lt}
 use lib.Dec.{lit<}
-use Rattle.gf2.specs.Poly.{◌⊕◌, bin_rec, cmul}
+use Rattle.gf2.specs.Poly.{◌⊕◌, cmul}
 use Rattle.gf2.proofs.Xor.{bit_elim, bit-lt, xor_half, xor-bit, xor_medial, xor-ring}
 use Rattle.gf2.proofs.Shift.{xor_dbl, xor_digit, bit_xor, xor_bits, bit-mul-lt, dbl_half, dbl_bit, half_lt, dbl_lt}
 use Rattle.gf2.proofs.BinRec.{bin_rec-zero, bin_rec_step}

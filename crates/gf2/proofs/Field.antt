@@ -1,13 +1,12 @@
 -- Laws of a field of residues, each cited at the field's width.
 use mathlib.Core.Path.{◌≡◌, sym, ap, ◌∙◌}
 use mathlib.Core.Logic.{◌≢◌}
-use Prim.Native.Nat.{ℕ, zero, suc, ◌-◌, ◌*◌, ◌/◌, ◌%◌, ◌^◌, ◌<◌}
+use Prim.Native.Nat.{ℕ, zero, suc, ◌*◌, ◌/◌, ◌%◌, ◌^◌, ◌<◌}
 use native.Mathlib.Nat.{mul-zero, mul-suc, mod-add-div}
-use native.Mathlib.Omega.{arith}
 use lib.Pow.{pow-lt}
 use Rattle.gf2.specs.Residue.{mul, sq, pow, frob, inv, root}
 use Rattle.gf2.specs.Field.{Field}
-use Rattle.gf2.proofs.Ring.{mul-zero_l, sq-lt}
+use Rattle.gf2.proofs.Ring.{sq-lt}
 use Rattle.gf2.proofs.Power.{frob_plus, pow-frob}
 use Rattle.gf2.proofs.Inverse.{cancel}
 

@@ -1,6 +1,6 @@
 -- The modulus x^n + t as a polynomial: `rem n t a` is the one remainder of a by it.
 use mathlib.Core.Path.{◌≡◌, sym, ap, ◌∙◌}
-use Prim.Native.Nat.{ℕ, zero, suc, ◌+◌, ◌*◌, ◌/◌, ◌%◌, ◌^◌, ◌<◌}
+use Prim.Native.Nat.{ℕ, zero, suc, ◌*◌, ◌/◌, ◌%◌, ◌^◌, ◌<◌}
 use native.Mathlib.Nat.{one-mul, pow-suc, le_refl}
 use lib.Arith.{bin_ind, lt-one}
 use lib.Pow.{pow-lt}

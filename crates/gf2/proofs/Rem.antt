@@ -5,7 +5,7 @@ use native.Mathlib.Nat.{zero-mul, one-mul, mod-lt, mod-eq_of_lt, mod_self, div_s
 use lib.Arith.{bin_ind}
 use lib.Pow.{pow_pos, pow_mono}
 use lib.Bits.{xor_zero_r, xor_lt, xor_shr, xor_mod, xor_shifted}
-use Rattle.gf2.specs.Poly.{◌⊕◌, bin_rec, cmul}
+use Rattle.gf2.specs.Poly.{◌⊕◌, cmul}
 use Rattle.gf2.specs.Residue.{red, rem}
 use Rattle.gf2.proofs.Xor.{bit_elim, bit-lt, xor_half, xor-bit, xor_medial}
 use Rattle.gf2.proofs.Shift.{xor_dbl, xor_digit, bit-mul-lt, top_lt, dbl_half, dbl_bit, dbl_lt}

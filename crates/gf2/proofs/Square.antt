@@ -5,7 +5,7 @@ use native.Mathlib.Nat.{mul_assoc, lt_of_lt_of_le}
 use lib.Arith.{bin_ind}
 use lib.Bits.{xor_shifted}
 use lib.Dec.{lit≤}
-use Rattle.gf2.specs.Poly.{◌⊕◌, bin_rec, cmul, spread}
+use Rattle.gf2.specs.Poly.{◌⊕◌, cmul, spread}
 use Rattle.gf2.proofs.Xor.{bit_elim, bit-lt}
 use Rattle.gf2.proofs.Shift.{xor_digit}
 use Rattle.gf2.proofs.BinRec.{bin_rec-zero, bin_rec_step}

@@ -1,6 +1,6 @@
 -- Numbers and lists by their entries, parities, and a choice by a test.
 use Rattle.std.specs.Prelude.{Bool, true, false, List, [], ◌∷◌, ℕ, zero, suc, ◌*◌, ◌^◌}
-use Rattle.gf2.specs.Poly.{◌⊕◌, coef, xsum}
+use Rattle.gf2.specs.Poly.{coef, xsum}
 
 -- the number whose bits below k are given, each 0 or 1
 unfoldable pub poly : ℕ → (ℕ → ℕ) → ℕ

@@ -1,6 +1,5 @@
 -- The two maps of the basis change as quadwords, each the one that its images give.
 use mathlib.Core.Path.{◌≡◌, refl, ap, ◌∙◌}
-use mathlib.Core.List.{List}
 use Prim.Native.Nat.{ℕ, ◌^◌, ◌<◌}
 use Rattle.gf2.specs.Poly.{coef, xsum}
 use Rattle.gf2.specs.Bits.{poly}

@@ -2,7 +2,6 @@
 use native.Mathlib.Omega.{arith}
 use mathlib.Core.Path.{sym}
 use Rattle.coach.proofs.Digits.{digit_none, digit_decimal, digit_middle, digit_upper, digit_between, digit_lower, digit_past}
-use borrow.Author.Rules.{rules}
 use Rattle.coach.proofs.digit.Goals as goal
 
 pub returns-then-c-lt48 : goal.returns-then-c-lt48

@@ -1,9 +1,8 @@
 -- `coach::draw` meets its contract: after i turns the first i seats are drawn. Assumes nothing.
 use mathlib.Core.Path.{◌≡◌, refl}
-use Prim.Native.Nat.{◌≤◌, ◌-◌}
 use native.Mathlib.Omega.{arith}
-use Rattle.coach.specs.Rows.{seat_of, drawn}
-use Rattle.gf2.proofs.Table.{Filled, filled_none, filled_turn, filled_all}
+use Rattle.coach.specs.Rows.{drawn}
+use Rattle.gf2.proofs.Table.{filled_none, filled_turn, filled_all}
 use borrow.Author.Rules.{rules}
 use Rattle.coach.proofs.draw.Goals as goal
 

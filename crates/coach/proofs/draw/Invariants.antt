@@ -1,9 +1,6 @@
-use mathlib.Core.Path.{◌≡◌, refl}
 use Prim.Native.Nat.{◌≤◌, ◌-◌}
-use native.Mathlib.Omega.{arith}
-use Rattle.coach.specs.Rows.{seat_of, drawn}
-use Rattle.gf2.proofs.Table.{Filled, filled_none, filled_turn, filled_all}
-use borrow.Author.Rules.{rules}
+use Rattle.coach.specs.Rows.{seat_of}
+use Rattle.gf2.proofs.Table.{Filled}
 use Rattle.coach.proofs.draw.Given as goal
 
 abbrev pub invariant-loop-i : goal.invariant-loop-i

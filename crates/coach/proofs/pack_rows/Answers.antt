@@ -1,15 +1,13 @@
 -- `coach::pack_rows` meets its contract: after i turns the first i words are the rows', and the others as they were.
 -- Assumes nothing.
 use mathlib.Core.Path.{◌≡◌, sym}
-use Prim.Native.Nat.{◌*◌, ◌≤◌, ◌<◌, ◌-◌}
+use Prim.Native.Nat.{◌<◌}
 use lib.ListN.{length}
 use native.Mathlib.Omega.{arith}
-use Rattle.gf2.proofs.Sweep.{Swept, swept_none, swept_turn}
-use Rattle.coach.specs.Rows.{words_for_rows, row_word_of}
+use Rattle.gf2.proofs.Sweep.{swept_none, swept_turn}
+use Rattle.coach.specs.Rows.{words_for_rows}
 use Rattle.coach.proofs.Packing.{packed_short, packed_done}
 use borrow.Author.Rules.{rules}
-use Rattle.coach.proofs.row_word.Reads as row-word-reads
-use Rattle.coach.proofs.words_for.Reads as words-for-reads
 use Rattle.coach.proofs.pack_rows.Goals as goal
 
 pub returns-then-count-words : goal.returns-then-count-words

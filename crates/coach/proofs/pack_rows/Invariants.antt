@@ -1,13 +1,6 @@
-use mathlib.Core.Path.{◌≡◌, sym}
-use Prim.Native.Nat.{◌*◌, ◌≤◌, ◌<◌, ◌-◌}
-use lib.ListN.{length}
-use native.Mathlib.Omega.{arith}
-use Rattle.gf2.proofs.Sweep.{Swept, swept_none, swept_turn}
-use Rattle.coach.specs.Rows.{words_for_rows, row_word_of}
-use Rattle.coach.proofs.Packing.{packed_short, packed_done}
-use borrow.Author.Rules.{rules}
-use Rattle.coach.proofs.row_word.Reads as row-word-reads
-use Rattle.coach.proofs.words_for.Reads as words-for-reads
+use Prim.Native.Nat.{◌*◌, ◌≤◌, ◌-◌}
+use Rattle.gf2.proofs.Sweep.{Swept}
+use Rattle.coach.specs.Rows.{row_word_of}
 use Rattle.coach.proofs.pack_rows.Given as goal
 
 abbrev pub invariant-loop-i : goal.invariant-loop-i

@@ -1,12 +1,8 @@
-use mathlib.Core.Path.{◌≡◌, refl, sym, ap, ◌∙◌}
+use mathlib.Core.Path.{◌≡◌}
 use mathlib.Core.Bool.{true}
-use Prim.Native.Nat.{◌+◌, ◌*◌, ◌^◌, ◌≤◌, ◌<◌, ◌-◌}
-use native.Mathlib.Omega.{arith}
+use Prim.Native.Nat.{◌*◌, ◌^◌, ◌≤◌, ◌<◌, ◌-◌}
 use lib.ListN.{length}
 use Rattle.coach.specs.Hex.{digits, number as number_of}
-use Rattle.coach.specs.declared.Hex.TheVariants.{Value}
-use Rattle.coach.proofs.Digits.{digits_more, number_more, number_lt, fits, hex_empty, hex_long, hex_bad, hex_good}
-use borrow.Author.Rules.{rules}
 use Rattle.coach.proofs.parse_hex.Given as goal
 
 abbrev pub invariant-loop-i : goal.invariant-loop-i

@@ -2,7 +2,6 @@
 use mathlib.Core.Path.{sym}
 use native.Mathlib.Omega.{arith}
 use lib.ListN.{get_or-eq_default}
-use borrow.Author.Rules.{rules}
 use Rattle.coach.proofs.row_or_zero.Goals as goal
 
 pub returns-else-k-rows : goal.returns-else-k-rows

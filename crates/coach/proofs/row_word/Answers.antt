@@ -1,8 +1,7 @@
 -- `coach::row_word` meets its contract: after k turns the word of the first k rows. Assumes nothing.
 use mathlib.Core.Path.{◌≡◌, refl, ap, ◌∙◌}
-use Prim.Native.Nat.{ℕ, ◌+◌, ◌*◌, ◌^◌, ◌≤◌, ◌-◌}
+use Prim.Native.Nat.{ℕ, ◌*◌, ◌^◌}
 use native.Mathlib.Omega.{arith}
-use lib.ListN.{get_or}
 use lib.Pow.{shl_exact}
 use Rattle.gf2.specs.Poly.{xsum}
 use Rattle.gf2.proofs.Sum.{xsum_turn}

@@ -1,12 +1,7 @@
-use mathlib.Core.Path.{◌≡◌, refl, ap, ◌∙◌}
-use Prim.Native.Nat.{ℕ, ◌+◌, ◌*◌, ◌^◌, ◌≤◌, ◌-◌}
-use native.Mathlib.Omega.{arith}
+use mathlib.Core.Path.{◌≡◌}
+use Prim.Native.Nat.{◌+◌, ◌*◌, ◌^◌, ◌≤◌, ◌-◌}
 use lib.ListN.{get_or}
-use lib.Pow.{shl_exact}
 use Rattle.gf2.specs.Poly.{xsum}
-use Rattle.gf2.proofs.Sum.{xsum_turn}
-use Rattle.coach.specs.Rows.{row_word_of}
-use borrow.Author.Rules.{rules}
 use Rattle.coach.proofs.row_word.Given as goal
 
 abbrev pub invariant-loop-k : goal.invariant-loop-k

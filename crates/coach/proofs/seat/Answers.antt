@@ -1,7 +1,6 @@
 -- `coach::seat` meets its contract: the code's test is the bit. Assumes nothing.
 use borrow.Author.Tests.{eq-eqb, ne_eqb}
 use Rattle.gf2.proofs.Bits.{coef_mask}
-use borrow.Author.Rules.{rules}
 use Rattle.coach.proofs.seat.Goals as goal
 
 pub returns-then-row-i-eq1 : goal.returns-then-row-i-eq1

@@ -1,13 +1,13 @@
 -- `endian::put_at` meets its contract: after i turns the first i bytes are there, and the others as they were.
 -- Assumes nothing.
 use mathlib.Core.Path.{◌≡◌, sym, ap, ◌∙◌}
-use Prim.Native.Nat.{ℕ, ◌+◌, ◌-◌, ◌*◌, ◌/◌, ◌%◌, ◌^◌, ◌≤◌}
+use Prim.Native.Nat.{ℕ, ◌+◌, ◌*◌, ◌/◌, ◌%◌, ◌^◌}
 use native.Mathlib.Nat.{div-one}
 use native.Mathlib.Omega.{arith}
 use borrow.Author.Rules.{rules}
 use lib.Pow.{shr-shr}
 use lib.ListN.{length}
-use lib.Seq.{paste, paste-zero}
+use lib.Seq.{paste-zero}
 use Rattle.endian.specs.Bytes.{bytes_of}
 use Rattle.endian.proofs.Bytes.{put_turn, length_put}
 use Rattle.endian.proofs.put_at.Goals as goal

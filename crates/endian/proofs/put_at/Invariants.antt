@@ -1,13 +1,7 @@
-use mathlib.Core.Path.{◌≡◌, sym, ap, ◌∙◌}
-use Prim.Native.Nat.{ℕ, ◌+◌, ◌-◌, ◌*◌, ◌/◌, ◌%◌, ◌^◌, ◌≤◌}
-use native.Mathlib.Nat.{div-one}
-use native.Mathlib.Omega.{arith}
-use borrow.Author.Rules.{rules}
-use lib.Pow.{shr-shr}
-use lib.ListN.{length}
-use lib.Seq.{paste, paste-zero}
+use mathlib.Core.Path.{◌≡◌}
+use Prim.Native.Nat.{◌-◌, ◌*◌, ◌/◌, ◌^◌, ◌≤◌}
+use lib.Seq.{paste}
 use Rattle.endian.specs.Bytes.{bytes_of}
-use Rattle.endian.proofs.Bytes.{put_turn, length_put}
 use Rattle.endian.proofs.put_at.Given as goal
 
 abbrev pub invariant-loop-i : goal.invariant-loop-i

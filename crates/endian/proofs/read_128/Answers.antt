@@ -1,7 +1,6 @@
 -- `endian::read_128` meets its contract: two words are the limbs of the 16 bytes' number. Assumes nothing.
 use mathlib.Core.Path.{ap, ap₂, ◌∙◌}
 use Prim.Native.Nat.{◌+◌}
-use borrow.Author.Rules.{rules}
 use borrow.Author.Tests.{le-leb, lt-leb}
 use lib.ListN.{drop}
 use lib.Seq.{get_or-drop}

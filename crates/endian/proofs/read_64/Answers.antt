@@ -1,6 +1,5 @@
 -- `endian::read_64` meets its contract: each return by the test that led there. Assumes nothing.
 use mathlib.Core.Path.{ap}
-use borrow.Author.Rules.{rules}
 use borrow.Author.Tests.{le-leb, lt-leb}
 use Rattle.endian.specs.declared.Word64.TheVariants.{Value}
 use Rattle.endian.proofs.read_64.Goals as goal

@@ -1,11 +1,10 @@
 -- `endian::word_at` meets its contract: after i turns the word of the first i bytes. Assumes nothing.
 use mathlib.Core.Path.{◌≡◌, sym}
-use Prim.Native.Nat.{◌+◌, ◌-◌, ◌≤◌}
+use Prim.Native.Nat.{◌+◌}
 use native.Mathlib.Omega.{arith}
 use borrow.Author.Rules.{rules}
 use lib.ListN.{drop}
 use lib.Seq.{get_or-drop}
-use Rattle.endian.specs.Bytes.{word_of}
 use Rattle.endian.proofs.Bytes.{Bytes, word_of_none, word_of_turn}
 use Rattle.endian.proofs.word_at.Goals as goal
 

@@ -1,11 +1,7 @@
-use mathlib.Core.Path.{◌≡◌, sym}
-use Prim.Native.Nat.{◌+◌, ◌-◌, ◌≤◌}
-use native.Mathlib.Omega.{arith}
-use borrow.Author.Rules.{rules}
+use mathlib.Core.Path.{◌≡◌}
+use Prim.Native.Nat.{◌-◌, ◌≤◌}
 use lib.ListN.{drop}
-use lib.Seq.{get_or-drop}
 use Rattle.endian.specs.Bytes.{word_of}
-use Rattle.endian.proofs.Bytes.{Bytes, word_of_none, word_of_turn}
 use Rattle.endian.proofs.word_at.Given as goal
 
 abbrev pub invariant-loop-i : goal.invariant-loop-i

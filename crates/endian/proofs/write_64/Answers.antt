@@ -1,6 +1,5 @@
 -- `endian::write_64` meets its contract: each return by the test that led there. Assumes nothing.
 use mathlib.Core.Path.{refl, ◌∙◌}
-use borrow.Author.Rules.{rules}
 use borrow.Author.Tests.{le-leb, lt-leb}
 use Rattle.endian.proofs.Place.{put_front}
 use Rattle.endian.proofs.write_64.Goals as goal

@@ -1,13 +1,7 @@
-use mathlib.Core.Path.{◌≡◌, ap, ◌∙◌}
+use mathlib.Core.Path.{◌≡◌}
 use Prim.Native.Nat.{◌-◌, ◌≤◌}
-use native.Mathlib.Omega.{arith}
-use borrow.Author.Tests.{le-leb, lt-leb}
 use lib.ListN.{length, take}
-use lib.Seq.{take-length}
-use Rattle.fingerprint.specs.Print.{limit, print_of}
-use Rattle.fingerprint.specs.declared.Print.TheVariants.{Value}
-use Rattle.fingerprint.proofs.Turn.{print-nil, print_turn}
-use borrow.Author.Rules.{rules}
+use Rattle.fingerprint.specs.Print.{print_of}
 use Rattle.fingerprint.proofs.fingerprint.Given as goal
 
 abbrev pub invariant-loop-i : goal.invariant-loop-i

@@ -1,16 +1,11 @@
-use mathlib.Core.Path.{◌≡◌, refl, ap, ◌∙◌}
+use mathlib.Core.Path.{◌≡◌}
 use mathlib.Core.List.{List}
 use Prim.Native.Nat.{ℕ, ◌-◌, ◌≤◌}
-use native.Mathlib.Omega.{arith}
 use lib.ListN.{get_or}
-use borrow.Author.Rules.{rules}
 use Rattle.gf2.specs.Poly.{xsum}
 use Rattle.gf2.specs.Residue.{mul, frob}
-use Rattle.gf2.proofs.Sum.{xsum_turn}
-use Rattle.spellings.specs.Lists.{times, dual8}
+use Rattle.spellings.specs.Lists.{dual8}
 use Rattle.spellings.specs.Quadword.{find_quadword}
-use Rattle.frobenius.proofs.Frobenius.{frobenius-image}
-use Rattle.spellings.proofs.Dual8.{dual8-lt}
 use Rattle.frobenius.proofs.coefficient.Given as goal
 
 abbrev pub term : List ℕ → ℕ → ℕ → ℕ

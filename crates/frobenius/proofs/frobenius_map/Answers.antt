@@ -1,6 +1,5 @@
 -- `frobenius::frobenius_map` meets its contract: the table's rule. Assumes nothing.
 use mathlib.Core.Path.{◌∙◌}
-use borrow.Author.Rules.{rules}
 use Rattle.frobenius.proofs.Frobenius.{frobenius, frobenius_rule}
 use Rattle.frobenius.proofs.frobenius_map.Goals as goal
 

@@ -1,11 +1,11 @@
 -- `frobenius::frobenius_orbit` meets its contract: after k turns k entries are there. Assumes nothing.
 use mathlib.Core.Path.{◌≡◌, refl, ap, ◌∙◌}
-use Prim.Native.Nat.{ℕ, ◌-◌, ◌≤◌}
+use Prim.Native.Nat.{ℕ}
 use native.Mathlib.Omega.{arith}
 use borrow.Author.Rules.{rules}
 use Rattle.gf2.specs.Residue.{frob}
 use Rattle.gf2.specs.Bits.{tab}
-use Rattle.gf2.proofs.Table.{Filled, filled_none, filled_turn, filled_all}
+use Rattle.gf2.proofs.Table.{filled_none, filled_turn, filled_all}
 use Rattle.frobenius.proofs.Frobenius.{frobenius-image}
 use Rattle.rijndael.specs.Element.{element}
 use Rattle.frobenius.proofs.frobenius_orbit.Goals as goal

@@ -1,11 +1,6 @@
-use mathlib.Core.Path.{◌≡◌, refl, ap, ◌∙◌}
-use Prim.Native.Nat.{ℕ, ◌-◌, ◌≤◌}
-use native.Mathlib.Omega.{arith}
-use borrow.Author.Rules.{rules}
+use Prim.Native.Nat.{◌-◌, ◌≤◌}
 use Rattle.gf2.specs.Residue.{frob}
-use Rattle.gf2.specs.Bits.{tab}
-use Rattle.gf2.proofs.Table.{Filled, filled_none, filled_turn, filled_all}
-use Rattle.frobenius.proofs.Frobenius.{frobenius-image}
+use Rattle.gf2.proofs.Table.{Filled}
 use Rattle.rijndael.specs.Element.{element}
 use Rattle.frobenius.proofs.frobenius_orbit.Given as goal
 

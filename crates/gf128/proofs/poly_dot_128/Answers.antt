@@ -1,7 +1,7 @@
 -- `gf128::poly_dot_128` meets its contract. The loop's invariant: the two halves are those of the sum of the products
 -- passed. Assumes nothing.
 use mathlib.Core.Path.{◌≡◌, refl, sym, ap, ◌∙◌}
-use Prim.Native.Nat.{ℕ, ◌/◌, ◌-◌, ◌^◌, ◌≤◌}
+use Prim.Native.Nat.{ℕ, ◌/◌}
 use native.Mathlib.Omega.{arith}
 use lib.ListN.{length}
 use Rattle.gf2.specs.Poly.{xsum}
@@ -10,7 +10,7 @@ use Rattle.words.specs.Limbs.{limbs}
 use Rattle.gf128.specs.declared.Dot128.TheVariants.{Value}
 use Rattle.gf128.specs.Answers.{element}
 use Rattle.gf128.proofs.Answers.{answer_differ, answer_odd, answer-value}
-use Rattle.gf128.proofs.Sums.{products, turn_low, turn_high, rem-products}
+use Rattle.gf128.proofs.Sums.{turn_low, turn_high, rem-products}
 use Rattle.gf128.proofs.poly_dot_128.Goals as goal
 
 pub returns-then-a-b : goal.returns-then-a-b

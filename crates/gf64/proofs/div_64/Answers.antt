@@ -1,6 +1,5 @@
 -- `gf64::div_64` meets its contract: the definition goes by the same cases of the inverse's answer. Assumes nothing.
-use mathlib.Core.Path.{ap, sym, ◌∙◌}
-use borrow.Author.Rules.{rules}
+use mathlib.Core.Path.{ap, ◌∙◌}
 use Rattle.gf64.specs.declared.Inverse64.TheVariants.{Value}
 use Rattle.gf64.specs.Answers.{times_inverse}
 use Rattle.gf64.proofs.div_64.Goals as goal

@@ -1,13 +1,10 @@
 -- `gf64::poly_dot_64` meets its contract: after i turns the two limbs hold the sum of the first i products. Assumes nothing.
 use mathlib.Core.Path.{◌≡◌, ap, ◌∙◌}
-use Prim.Native.Nat.{◌-◌, ◌≤◌}
 use native.Mathlib.Omega.{arith}
 use borrow.Author.Tests.{eq-eqb, ne_eqb}
 use lib.ListN.{length, get_or}
-use Rattle.words.specs.Limbs.{limbs}
-use Rattle.words.proofs.Value.{pair}
 use Rattle.gf64.specs.declared.Dot64.TheVariants.{Value}
-use Rattle.gf64.proofs.Dot.{products, products_none, products_turn, products-rem}
+use Rattle.gf64.proofs.Dot.{products_none, products_turn, products-rem}
 use borrow.Author.Rules.{rules}
 use Rattle.gf64.proofs.poly_dot_64.Goals as goal
 

@@ -1,13 +1,9 @@
-use mathlib.Core.Path.{◌≡◌, ap, ◌∙◌}
+use mathlib.Core.Path.{◌≡◌}
 use Prim.Native.Nat.{◌-◌, ◌≤◌}
-use native.Mathlib.Omega.{arith}
-use borrow.Author.Tests.{eq-eqb, ne_eqb}
 use lib.ListN.{length, get_or}
 use Rattle.words.specs.Limbs.{limbs}
 use Rattle.words.proofs.Value.{pair}
-use Rattle.gf64.specs.declared.Dot64.TheVariants.{Value}
-use Rattle.gf64.proofs.Dot.{products, products_none, products_turn, products-rem}
-use borrow.Author.Rules.{rules}
+use Rattle.gf64.proofs.Dot.{products}
 use Rattle.gf64.proofs.poly_dot_64.Given as goal
 
 abbrev pub invariant-loop-i : goal.invariant-loop-i

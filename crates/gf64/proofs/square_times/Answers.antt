@@ -1,8 +1,6 @@
 -- `gf64::square_times` meets its contract: after as many turns, as many squarings. Assumes nothing.
 use mathlib.Core.Path.{◌≡◌}
-use Prim.Native.Nat.{◌-◌, ◌≤◌}
 use native.Mathlib.Omega.{arith}
-use Rattle.gf2.specs.Residue.{frob}
 use Rattle.gf64.proofs.Chain.{frob_none, frob_turn}
 use borrow.Author.Rules.{rules}
 use Rattle.gf64.proofs.square_times.Goals as goal

@@ -1,9 +1,6 @@
 use mathlib.Core.Path.{◌≡◌}
 use Prim.Native.Nat.{◌-◌, ◌≤◌}
-use native.Mathlib.Omega.{arith}
 use Rattle.gf2.specs.Residue.{frob}
-use Rattle.gf64.proofs.Chain.{frob_none, frob_turn}
-use borrow.Author.Rules.{rules}
 use Rattle.gf64.proofs.square_times.Given as goal
 
 abbrev pub invariant-loop-done : goal.invariant-loop-done

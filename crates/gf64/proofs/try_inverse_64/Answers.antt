@@ -1,6 +1,5 @@
 -- `gf64::try_inverse_64` meets its contract: each return by the test that led there. Assumes nothing.
 use mathlib.Core.Path.{ap}
-use borrow.Author.Rules.{rules}
 use borrow.Author.Tests.{eq-eqb, ne_eqb}
 use Rattle.gf64.specs.declared.Inverse64.TheVariants.{Value}
 use Rattle.gf64.proofs.try_inverse_64.Goals as goal

@@ -1,13 +1,11 @@
 -- `sweeps::invert_slice` meets its contract: after i turns the i first bytes are inverses, and the others as they were.
 -- Assumes nothing.
 use mathlib.Core.Path.{ap, ◌∙◌}
-use Prim.Native.Nat.{◌≤◌, ◌-◌}
 use native.Mathlib.Nat.{le_refl}
 use native.Mathlib.Omega.{arith}
-use lib.ListN.{length, get_or}
 use borrow.Author.Rules.{rules}
 use Rattle.gf2.specs.Residue.{inv}
-use Rattle.gf2.proofs.Sweep.{Swept, swept_none, swept_turn, swept_all}
+use Rattle.gf2.proofs.Sweep.{swept_none, swept_turn, swept_all}
 use Rattle.sweeps.proofs.invert_slice.Goals as goal
 
 pub loop-i-init : goal.loop-i-init

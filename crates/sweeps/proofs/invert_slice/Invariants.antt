@@ -1,11 +1,7 @@
-use mathlib.Core.Path.{ap, ◌∙◌}
 use Prim.Native.Nat.{◌≤◌, ◌-◌}
-use native.Mathlib.Nat.{le_refl}
-use native.Mathlib.Omega.{arith}
 use lib.ListN.{length, get_or}
-use borrow.Author.Rules.{rules}
 use Rattle.gf2.specs.Residue.{inv}
-use Rattle.gf2.proofs.Sweep.{Swept, swept_none, swept_turn, swept_all}
+use Rattle.gf2.proofs.Sweep.{Swept}
 use Rattle.sweeps.proofs.invert_slice.Given as goal
 
 abbrev pub invariant-loop-i : goal.invariant-loop-i

@@ -2,13 +2,13 @@
 -- Assumes nothing.
 use borrow.Author.Tests.{eq-eqb, ne_eqb}
 use mathlib.Core.Path.{refl, ap, ◌∙◌}
-use Prim.Native.Nat.{ℕ, ◌≤◌, ◌-◌}
+use Prim.Native.Nat.{ℕ}
 use native.Mathlib.Nat.{le_refl}
 use native.Mathlib.Omega.{arith}
-use lib.ListN.{length, get_or}
+use lib.ListN.{get_or}
 use borrow.Author.Rules.{rules}
 use Rattle.gf2.specs.Residue.{mul}
-use Rattle.gf2.proofs.Sweep.{Swept, swept_none, swept_turn, swept_all}
+use Rattle.gf2.proofs.Sweep.{swept_none, swept_turn, swept_all}
 use Rattle.sweeps.proofs.mul_slice.Goals as goal
 
 pub returns-then-dst-src : goal.returns-then-dst-src

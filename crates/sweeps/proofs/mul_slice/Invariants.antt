@@ -1,12 +1,7 @@
-use borrow.Author.Tests.{eq-eqb, ne_eqb}
-use mathlib.Core.Path.{refl, ap, ◌∙◌}
-use Prim.Native.Nat.{ℕ, ◌≤◌, ◌-◌}
-use native.Mathlib.Nat.{le_refl}
-use native.Mathlib.Omega.{arith}
+use Prim.Native.Nat.{◌≤◌, ◌-◌}
 use lib.ListN.{length, get_or}
-use borrow.Author.Rules.{rules}
 use Rattle.gf2.specs.Residue.{mul}
-use Rattle.gf2.proofs.Sweep.{Swept, swept_none, swept_turn, swept_all}
+use Rattle.gf2.proofs.Sweep.{Swept}
 use Rattle.sweeps.proofs.mul_slice.Given as goal
 
 abbrev pub invariant-loop-i : goal.invariant-loop-i

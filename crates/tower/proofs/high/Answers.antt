@@ -1,5 +1,4 @@
 -- `tower::high` meets its contract: `high_is` at a byte. Assumes nothing.
-use borrow.Author.Rules.{rules}
 use mathlib.Core.Path.{◌∙◌}
 use native.Mathlib.Omega.{arith}
 use Rattle.towers.proofs.Step.{width_is, width_lt, high_is}

@@ -1,5 +1,4 @@
 -- `tower::joined` meets its contract: `join_is` at a byte. Assumes nothing.
-use borrow.Author.Rules.{rules}
 use native.Mathlib.Omega.{arith}
 use Rattle.towers.proofs.Step.{width_is, width_lt, join_is}
 use Rattle.tower.proofs.joined.Goals as goal

@@ -1,5 +1,4 @@
 -- `tower::low` meets its contract: `low_is` at a byte. Assumes nothing.
-use borrow.Author.Rules.{rules}
 use native.Mathlib.Omega.{arith}
 use Rattle.towers.proofs.Step.{width_is, width_lt, mask_pos, low_is}
 use Rattle.tower.proofs.low.Goals as goal

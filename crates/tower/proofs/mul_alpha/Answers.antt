@@ -1,5 +1,4 @@
 -- `tower::mul_alpha` meets its contract: the last of the written images is that of X2. Assumes nothing.
-use borrow.Author.Rules.{rules}
 use mathlib.Core.Path.{sym, ap₂, ◌∙◌}
 use lib.Dec.{lit<}
 use Rattle.towers.specs.Basis.{bmul, xi}

@@ -1,15 +1,13 @@
 -- `tower::tower_images` meets its contract: after the turns below j the images below j stand, and the next one comes from an
 -- earlier one by the generator split off. Assumes nothing.
 use mathlib.Core.Path.{◌≡◌, refl, sym, ap₂, ◌∙◌, subst}
-use mathlib.Core.Logic.{◌≢◌}
-use Prim.Native.Nat.{ℕ, ◌≤◌, ◌<◌, ◌-◌}
+use Prim.Native.Nat.{ℕ, ◌<◌, ◌-◌}
 use native.Mathlib.Omega.{arith}
 use lib.Bits.{bit_and, and_le_r}
-use lib.Dec.{lit<}
 use lib.ListN.{get_or, replicate}
 use borrow.Author.Rules.{rules}
 use Rattle.towers.specs.Basis.{bmul, xi, monomial_image, out_images}
-use Rattle.gf2.proofs.Table.{Filled, filled_turn, filled_all}
+use Rattle.gf2.proofs.Table.{filled_turn, filled_all}
 use Rattle.towers.proofs.Basis.{image_split, lowest_lt, image-zero}
 use Rattle.tower.proofs.tower_images.Goals as goal
 

@@ -1,18 +1,10 @@
-use mathlib.Core.Path.{◌≡◌, refl, sym, ap, ap₂, ◌∙◌}
+use mathlib.Core.Path.{◌≡◌}
 use mathlib.Core.List.{List}
 use Prim.Native.Nat.{ℕ, ◌-◌, ◌≤◌}
-use native.Mathlib.Omega.{arith}
 use lib.ListN.{get_or}
-use borrow.Author.Rules.{rules}
-use Rattle.rijndael.specs.declared.Rijndael8b.{Rijndael8b}
 use Rattle.gf2.specs.Poly.{xsum}
-use Rattle.gf2.specs.Bits.{tab}
-use Rattle.gf2.specs.Residue.{mul, frob}
-use Rattle.spellings.specs.Lists.{eval}
-use Rattle.gf2.proofs.Sum.{xsum_turn, xsum_below}
-use Rattle.gf2.proofs.Table.{get_or-tab, map-tab}
+use Rattle.gf2.specs.Residue.{mul}
 use Rattle.frobenius.specs.Elements.{bytes}
-use Rattle.frobenius.proofs.Elements.{bytes_at}
 use Rattle.frobenius.proofs.LinearizedPoly8b.eval.Given as goal
 
 abbrev pub term : List ℕ → List ℕ → ℕ → ℕ

@@ -1,11 +1,9 @@
 -- `frobenius::LinearizedPoly8b::from_images` meets its contract: after j turns j coefficients are there. Assumes nothing.
 use mathlib.Core.Path.{◌≡◌, refl, sym, ap, ◌∙◌}
-use Prim.Native.Nat.{◌-◌, ◌≤◌}
 use native.Mathlib.Omega.{arith}
-use lib.ListN.{get_or}
 use borrow.Author.Rules.{rules}
-use Rattle.gf2.proofs.Table.{Filled, filled_none, filled_turn, filled_all, map-tab}
-use Rattle.spellings.specs.Lists.{times, dual, dual8}
+use Rattle.gf2.proofs.Table.{filled_none, filled_turn, filled_all, map-tab}
+use Rattle.spellings.specs.Lists.{dual8}
 use Rattle.spellings.proofs.Coefficients.{find_images-coefficients}
 use Rattle.rijndael.specs.Element.{element}
 use Rattle.frobenius.specs.Elements.{elements}

@@ -1,13 +1,8 @@
-use mathlib.Core.Path.{◌≡◌, refl, sym, ap, ◌∙◌}
 use Prim.Native.Nat.{◌-◌, ◌≤◌}
-use native.Mathlib.Omega.{arith}
 use lib.ListN.{get_or}
-use borrow.Author.Rules.{rules}
-use Rattle.gf2.proofs.Table.{Filled, filled_none, filled_turn, filled_all, map-tab}
+use Rattle.gf2.proofs.Table.{Filled}
 use Rattle.spellings.specs.Lists.{times, dual, dual8}
-use Rattle.spellings.proofs.Coefficients.{find_images-coefficients}
 use Rattle.rijndael.specs.Element.{element}
-use Rattle.frobenius.specs.Elements.{elements}
 use Rattle.frobenius.proofs.LinearizedPoly8b.from_images.Given as goal
 
 abbrev pub invariant-loop-j : goal.invariant-loop-j

@@ -1,10 +1,9 @@
 -- `frobenius::LinearizedPoly8b::to_images` meets its contract: after b turns b images are there. Assumes nothing.
 use mathlib.Core.Path.{◌≡◌, refl, ap, ◌∙◌}
-use Prim.Native.Nat.{◌-◌, ◌^◌, ◌≤◌}
 use native.Mathlib.Omega.{arith}
 use borrow.Author.Rules.{rules}
 use Rattle.gf2.proofs.Bits.{shl_one}
-use Rattle.gf2.proofs.Table.{Filled, filled_none, filled_turn, filled_all}
+use Rattle.gf2.proofs.Table.{filled_none, filled_turn, filled_all}
 use Rattle.spellings.specs.Lists.{find_images, eval}
 use Rattle.frobenius.specs.Elements.{bytes}
 use Rattle.frobenius.proofs.LinearizedPoly8b.to_images.Goals as goal

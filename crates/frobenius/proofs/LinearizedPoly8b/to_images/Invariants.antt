@@ -1,10 +1,6 @@
-use mathlib.Core.Path.{◌≡◌, refl, ap, ◌∙◌}
 use Prim.Native.Nat.{◌-◌, ◌^◌, ◌≤◌}
-use native.Mathlib.Omega.{arith}
-use borrow.Author.Rules.{rules}
-use Rattle.gf2.proofs.Bits.{shl_one}
-use Rattle.gf2.proofs.Table.{Filled, filled_none, filled_turn, filled_all}
-use Rattle.spellings.specs.Lists.{find_images, eval}
+use Rattle.gf2.proofs.Table.{Filled}
+use Rattle.spellings.specs.Lists.{eval}
 use Rattle.frobenius.specs.Elements.{bytes}
 use Rattle.frobenius.proofs.LinearizedPoly8b.to_images.Given as goal
 

@@ -1,13 +1,11 @@
 -- `matrix::ByteMatrix::apply_slice` meets its contract: after i turns the first i bytes are images, and the others as they
 -- were. Assumes nothing.
 use mathlib.Core.Path.{ap, ◌∙◌}
-use Prim.Native.Nat.{◌-◌, ◌≤◌}
 use native.Mathlib.Nat.{le_refl}
 use native.Mathlib.Omega.{arith}
-use lib.ListN.{length, get_or}
 use borrow.Author.Rules.{rules}
 use Rattle.spellings.specs.Quadword.{image}
-use Rattle.gf2.proofs.Sweep.{Swept, swept_none, swept_turn, swept_all}
+use Rattle.gf2.proofs.Sweep.{swept_none, swept_turn, swept_all}
 use Rattle.matrix.proofs.ByteMatrix.apply_slice.Goals as goal
 
 pub loop-i-init : goal.loop-i-init

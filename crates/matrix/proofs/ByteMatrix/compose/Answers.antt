@@ -1,7 +1,7 @@
 -- `matrix::ByteMatrix::compose` meets its contract: the images on the way change nothing. Assumes nothing.
 use mathlib.Core.Path.{◌≡◌, refl, ap, ◌∙◌}
 use mathlib.Core.List.{List}
-use Prim.Native.Nat.{ℕ, ◌-◌, ◌^◌, ◌≤◌}
+use Prim.Native.Nat.{ℕ, ◌^◌}
 use native.Mathlib.Omega.{arith}
 use lib.ListN.{get_or}
 use borrow.Author.Rules.{rules}
@@ -9,7 +9,7 @@ use Rattle.spellings.specs.Maps.{after}
 use Rattle.spellings.specs.Lists.{find_images}
 use Rattle.spellings.specs.Quadword.{image}
 use Rattle.spellings.specs.Kinds.{turn, Kind}
-use Rattle.gf2.proofs.Table.{Filled, filled_none, filled_turn, filled_all, get_or-tab, tab_below}
+use Rattle.gf2.proofs.Table.{filled_none, filled_turn, filled_all, get_or-tab, tab_below}
 use Rattle.spellings.proofs.Spelling.{find_via}
 use Rattle.spellings.proofs.Linear.{linear_closed}
 use Rattle.spellings.proofs.Images.{images}

@@ -1,14 +1,11 @@
 -- `matrix::ByteMatrix::from_images` meets its contract: after k turns the bits below k are there. Assumes nothing.
 use mathlib.Core.Path.{◌≡◌, sym, ap, ◌∙◌}
-use mathlib.Core.List.{List}
-use Prim.Native.Nat.{ℕ, ◌-◌, ◌/◌, ◌%◌, ◌^◌, ◌≤◌}
+use Prim.Native.Nat.{ℕ, ◌-◌, ◌/◌, ◌%◌, ◌^◌}
 use native.Mathlib.Omega.{arith}
 use lib.Bits.{and_le_r}
 use lib.ListN.{get_or}
 use borrow.Author.Rules.{rules}
 use Rattle.gf2.specs.Poly.{coef}
-use Rattle.gf2.specs.Bits.{poly}
-use Rattle.gf2.specs.Linear.{apply}
 use Rattle.spellings.specs.Quadword.{find_quadword}
 use Rattle.gf2.proofs.Shift.{coef-lt}
 use Rattle.gf2.proofs.Bits.{poly-nil, poly_turn, coef_mask}

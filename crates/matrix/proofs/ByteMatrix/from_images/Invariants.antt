@@ -1,17 +1,9 @@
-use mathlib.Core.Path.{◌≡◌, sym, ap, ◌∙◌}
+use mathlib.Core.Path.{◌≡◌}
 use mathlib.Core.List.{List}
 use Prim.Native.Nat.{ℕ, ◌-◌, ◌/◌, ◌%◌, ◌^◌, ◌≤◌}
-use native.Mathlib.Omega.{arith}
-use lib.Bits.{and_le_r}
-use lib.ListN.{get_or}
-use borrow.Author.Rules.{rules}
 use Rattle.gf2.specs.Poly.{coef}
 use Rattle.gf2.specs.Bits.{poly}
 use Rattle.gf2.specs.Linear.{apply}
-use Rattle.spellings.specs.Quadword.{find_quadword}
-use Rattle.gf2.proofs.Shift.{coef-lt}
-use Rattle.gf2.proofs.Bits.{poly-nil, poly_turn, coef_mask}
-use Rattle.spellings.proofs.Images.{apply-pow}
 use Rattle.matrix.proofs.ByteMatrix.from_images.Given as goal
 
 abbrev pub bits : List ℕ → ℕ → ℕ

@@ -1,12 +1,11 @@
 -- `matrix::ByteMatrix::images` meets its contract: after b turns b images are there. Assumes nothing.
 use mathlib.Core.Path.{◌≡◌, refl, ap, ◌∙◌}
-use Prim.Native.Nat.{◌-◌, ◌^◌, ◌≤◌}
 use native.Mathlib.Omega.{arith}
 use borrow.Author.Rules.{rules}
 use Rattle.spellings.specs.Quadword.{image}
 use Rattle.spellings.specs.Lists.{find_images}
 use Rattle.gf2.proofs.Bits.{shl_one}
-use Rattle.gf2.proofs.Table.{Filled, filled_none, filled_turn, filled_all}
+use Rattle.gf2.proofs.Table.{filled_none, filled_turn, filled_all}
 use Rattle.matrix.proofs.ByteMatrix.images.Goals as goal
 
 pub loop-b-init : goal.loop-b-init

@@ -1,11 +1,6 @@
-use mathlib.Core.Path.{◌≡◌, refl, ap, ◌∙◌}
 use Prim.Native.Nat.{◌-◌, ◌^◌, ◌≤◌}
-use native.Mathlib.Omega.{arith}
-use borrow.Author.Rules.{rules}
 use Rattle.spellings.specs.Quadword.{image}
-use Rattle.spellings.specs.Lists.{find_images}
-use Rattle.gf2.proofs.Bits.{shl_one}
-use Rattle.gf2.proofs.Table.{Filled, filled_none, filled_turn, filled_all}
+use Rattle.gf2.proofs.Table.{Filled}
 use Rattle.matrix.proofs.ByteMatrix.images.Given as goal
 
 abbrev pub invariant-loop-b : goal.invariant-loop-b

@@ -1,5 +1,5 @@
 -- `rijndael::Rijndael8b::div` meets its contract: the quotient goes by the cases of the inverse's answer. Assumes nothing.
-use Rattle.std.proofs.Common.{ℕ, sym, ap, ◌∙◌, rules}
+use Rattle.std.proofs.Common.{ℕ, ap, ◌∙◌}
 use Rattle.rijndael.specs.Element.{element}
 use Rattle.rijndael.specs.declared.Inverse8.TheVariants.{Value}
 use Rattle.rijndael.proofs.Quotient.{quotient_none, quotient_some}

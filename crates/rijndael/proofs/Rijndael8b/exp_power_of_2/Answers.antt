@@ -1,6 +1,5 @@
 -- `rijndael::Rijndael8b::exp_power_of_2` meets its contract: after i turns `x` is squared i times. Assumes nothing.
-use Rattle.std.proofs.Common.{◌≡◌, ◌-◌, ◌%◌, ◌≤◌, sym, ◌∙◌, arith, rules}
-use Rattle.gf2.specs.Residue.{frob}
+use Rattle.std.proofs.Common.{◌≡◌, ◌%◌, sym, ◌∙◌, arith, rules}
 use Rattle.gf2.proofs.Squarings.{frob_none, frob_turn}
 use Rattle.rijndael.proofs.Laws.{frob_remainder}
 use Rattle.rijndael.proofs.Rijndael8b.exp_power_of_2.Goals as goal

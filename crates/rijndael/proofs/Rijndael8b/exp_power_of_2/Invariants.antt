@@ -1,7 +1,5 @@
-use Rattle.std.proofs.Common.{◌≡◌, ◌-◌, ◌%◌, ◌≤◌, sym, ◌∙◌, arith, rules}
+use Rattle.std.proofs.Common.{◌≡◌, ◌-◌, ◌≤◌}
 use Rattle.gf2.specs.Residue.{frob}
-use Rattle.gf2.proofs.Squarings.{frob_none, frob_turn}
-use Rattle.rijndael.proofs.Laws.{frob_remainder}
 use Rattle.rijndael.proofs.Rijndael8b.exp_power_of_2.Given as goal
 
 abbrev pub invariant-loop-i : goal.invariant-loop-i

@@ -1,5 +1,5 @@
 -- `rijndael::Rijndael8b::interpolation_node` meets its contract: each return rewrites with its test. Assumes nothing.
-use Rattle.std.proofs.Common.{rules, le-ltb, lt-ltb}
+use Rattle.std.proofs.Common.{le-ltb, lt-ltb}
 use Rattle.rijndael.proofs.Rijndael8b.interpolation_node.Goals as goal
 
 pub returns-then-i-lt256 : goal.returns-then-i-lt256

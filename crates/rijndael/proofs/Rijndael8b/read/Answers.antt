@@ -1,5 +1,4 @@
 -- `rijndael::Rijndael8b::read` meets its contract: there is no byte, or a first one. Assumes nothing.
-use Rattle.std.proofs.Common.{rules}
 use Rattle.rijndael.proofs.Lent.{read_none, read_some}
 use Rattle.rijndael.proofs.Rijndael8b.read.Goals as goal
 

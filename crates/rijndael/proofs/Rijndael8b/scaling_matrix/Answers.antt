@@ -1,8 +1,8 @@
 -- `rijndael::Rijndael8b::scaling_matrix` meets its contract: after b turns b images are there. Assumes nothing.
-use Rattle.std.proofs.Common.{◌≡◌, ◌-◌, ◌^◌, ◌≤◌, refl, ap, ◌∙◌, arith, rules}
+use Rattle.std.proofs.Common.{◌≡◌, refl, ap, ◌∙◌, arith, rules}
 use Rattle.gf2.specs.Residue.{mul}
 use Rattle.gf2.proofs.Bits.{shl_one}
-use Rattle.gf2.proofs.Table.{Filled, filled_none, filled_turn, filled_all}
+use Rattle.gf2.proofs.Table.{filled_none, filled_turn, filled_all}
 use Rattle.rijndael.proofs.Scaling.{scaling_images}
 use Rattle.rijndael.proofs.Rijndael8b.scaling_matrix.Goals as goal
 

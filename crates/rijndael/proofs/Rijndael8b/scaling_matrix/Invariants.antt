@@ -1,8 +1,6 @@
-use Rattle.std.proofs.Common.{◌≡◌, ◌-◌, ◌^◌, ◌≤◌, refl, ap, ◌∙◌, arith, rules}
+use Rattle.std.proofs.Common.{◌-◌, ◌^◌, ◌≤◌}
 use Rattle.gf2.specs.Residue.{mul}
-use Rattle.gf2.proofs.Bits.{shl_one}
-use Rattle.gf2.proofs.Table.{Filled, filled_none, filled_turn, filled_all}
-use Rattle.rijndael.proofs.Scaling.{scaling_images}
+use Rattle.gf2.proofs.Table.{Filled}
 use Rattle.rijndael.proofs.Rijndael8b.scaling_matrix.Given as goal
 
 abbrev pub invariant-loop-b : goal.invariant-loop-b

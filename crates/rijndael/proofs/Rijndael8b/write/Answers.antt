@@ -1,5 +1,4 @@
 -- `rijndael::Rijndael8b::write` meets its contract: there is no byte, or the first one is stored. Assumes nothing.
-use Rattle.std.proofs.Common.{rules}
 use Rattle.rijndael.proofs.Lent.{write_none, write_some}
 use Rattle.rijndael.proofs.Rijndael8b.write.Goals as goal
 

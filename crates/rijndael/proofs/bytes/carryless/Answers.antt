@@ -1,6 +1,6 @@
 -- `rijndael::bytes::carryless` meets its contract: after i turns `acc` is the product by the i lowest bits of b.
 -- Assumes nothing.
-use Rattle.std.proofs.Common.{◌≡◌, ◌-◌, ◌/◌, ◌%◌, ◌^◌, ◌≤◌, ap, ◌∙◌, mod-eq_of_lt, arith, rules}
+use Rattle.std.proofs.Common.{◌≡◌, ◌/◌, ◌^◌, ap, ◌∙◌, mod-eq_of_lt, arith, rules}
 use lib.Bits.{and_le_r}
 use Rattle.gf2.specs.Poly.{cmul}
 use Rattle.gf2.proofs.Mask.{shl_select}

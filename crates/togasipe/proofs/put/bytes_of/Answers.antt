@@ -1,11 +1,8 @@
 -- `togasipe::put::bytes_of` meets its contract: after i turns i entries are there. Assumes nothing.
-use mathlib.Core.Path.{◌≡◌, refl, ap, ◌∙◌}
-use Prim.Native.Nat.{◌-◌, ◌≤◌}
+use mathlib.Core.Path.{◌≡◌, refl, ◌∙◌}
 use native.Mathlib.Omega.{arith}
 use borrow.Author.Rules.{rules}
-use lib.ListN.{get_or}
-use Rattle.gf2.proofs.Table.{Filled, filled_none, filled_turn, filled_all}
-use Rattle.rijndael.specs.Element.{element}
+use Rattle.gf2.proofs.Table.{filled_none, filled_turn, filled_all}
 use Rattle.togasipe.proofs.Eight.{tab-bytes}
 use Rattle.togasipe.proofs.put.bytes_of.Goals as goal
 

@@ -1,11 +1,7 @@
-use mathlib.Core.Path.{◌≡◌, refl, ap, ◌∙◌}
 use Prim.Native.Nat.{◌-◌, ◌≤◌}
-use native.Mathlib.Omega.{arith}
-use borrow.Author.Rules.{rules}
 use lib.ListN.{get_or}
-use Rattle.gf2.proofs.Table.{Filled, filled_none, filled_turn, filled_all}
+use Rattle.gf2.proofs.Table.{Filled}
 use Rattle.rijndael.specs.Element.{element}
-use Rattle.togasipe.proofs.Eight.{tab-elements}
 use Rattle.togasipe.proofs.put.elements_of.Given as goal
 
 abbrev pub invariant-loop-i : goal.invariant-loop-i

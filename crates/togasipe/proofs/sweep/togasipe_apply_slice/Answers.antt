@@ -1,5 +1,4 @@
 -- `togasipe::sweep::togasipe_apply_slice` meets its contract: the answer of the call below crosses as it is. Assumes nothing.
-use borrow.Author.Rules.{rules}
 use mathlib.Core.Path.{ap, ◌∙◌}
 use Prim.Native.Nat.{ℕ}
 use lib.ListN.{length, get_or}
