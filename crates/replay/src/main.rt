@@ -16,18 +16,18 @@ mod wide;
 mod word;
 
 use fields::Fields;
-use libc::STDOUT_FILENO;
 use scan::part;
+use std::io;
+use std::io::Read;
 use tally::Tally;
 use verdict::Verdict;
 
 // Writes the line's number, what is wrong with it, and the line.
-fn print_line(number: u64, what: &[u8], line: &[u8]) {
-    io::write_all(STDOUT_FILENO, b"line ");
-    io::print_decimal(STDOUT_FILENO, number);
-    io::write_all(STDOUT_FILENO, what);
-    io::write_all(STDOUT_FILENO, line);
-    io::write_all(STDOUT_FILENO, b"\n");
+fn print_line(rt: &impl Print, number: u64, what: &[u8], line: &[u8]) -> io::Result<()> {
+    print!(rt; "line {number}")?;
+    rt.write_all(what)?;
+    rt.write_all(line)?;
+    rt.write_all(b"\n")
 }
 
 // The verdict of the first theme that knows the call.
@@ -51,94 +51,101 @@ fn judge(name: &[u8], fields: Fields, x: &[u64; 256]) -> Verdict {
 }
 
 // Whether a line, whose name ends at `end`, agrees; shows it where it does not.
-fn agrees(line: &[u8], end: usize, number: u64) -> bool {
+fn agrees(rt: &impl Print, line: &[u8], end: usize, number: u64) -> io::Result<bool> {
     let mut x = [0u64; 256];
     let fields = fields::read(line, end, &mut x);
     match judge(part(line, 0, end), fields, &x) {
-        Verdict::Agrees => true,
+        Verdict::Agrees => Ok(true),
         Verdict::Differs => {
-            print_line(number, b" differs: ", line);
-            false
+            print_line(rt, number, b" differs: ", line)?;
+            Ok(false)
         }
         Verdict::Unfit => {
-            print_line(number, b" cannot be read: ", line);
-            false
+            print_line(rt, number, b" cannot be read: ", line)?;
+            Ok(false)
         }
     }
 }
 
 // The tally after a whole line. `name` holds the present group's name.
-fn counted(line: &[u8], name: &mut [u8], t: Tally) -> Tally {
+fn counted(rt: &impl Print, line: &[u8], name: &mut [u8], t: Tally) -> io::Result<Tally> {
     let next = t.with_line();
     if line.len() == 0 {
-        return next;
+        return Ok(next);
     }
     if line[0] == b'#' {
-        return next;
+        return Ok(next);
     }
     let end = scan::end_of(line, 0, b' ');
-    let turned = tally::turned(part(line, 0, end), name, next);
-    turned.with_case(agrees(line, end, turned.lines))
+    let turned = tally::turned(rt, part(line, 0, end), name, next)?;
+    Ok(turned.with_case(agrees(rt, line, end, turned.lines)?))
 }
 
 // The tally after the line so far, which is whole now. One that fills its room may be longer, and is not read.
-fn ended(line: &mut [u8], name: &mut [u8], t: Tally) -> Tally {
+fn ended(rt: &impl Print, line: &mut [u8], name: &mut [u8], t: Tally) -> io::Result<Tally> {
     let length = t.length;
     if length < line.len() {
-        return counted(part(line, 0, length), name, t);
+        return counted(rt, part(line, 0, length), name, t);
     }
     let next = t.with_line();
-    print_line(next.lines, b" is too long: ", line);
-    next.with_case(false)
+    print_line(rt, next.lines, b" is too long: ", line)?;
+    Ok(next.with_case(false))
 }
 
 // The tally after one byte of the list. `line` holds the line so far.
-fn fed(byte: u8, line: &mut [u8], name: &mut [u8], t: Tally) -> Tally {
+fn fed(rt: &impl Print, byte: u8, line: &mut [u8], name: &mut [u8], t: Tally) -> io::Result<Tally> {
     let length = t.length;
     if byte == b'\n' {
-        return ended(line, name, t);
+        return ended(rt, line, name, t);
     }
     if length < line.len() {
         line[length] = byte;
-        return t.with_length(length + 1);
+        return Ok(t.with_length(length + 1));
     }
-    t
+    Ok(t)
 }
 
-fn all_fed(bytes: &[u8], line: &mut [u8], name: &mut [u8], t: Tally) -> Tally {
+fn all_fed(
+    rt: &impl Print,
+    bytes: &[u8],
+    line: &mut [u8],
+    name: &mut [u8],
+    t: Tally,
+) -> io::Result<Tally> {
     let mut next = t;
     let mut i = 0usize;
     while i < bytes.len() {
-        next = fed(bytes[i], line, name, next);
+        next = fed(rt, bytes[i], line, name, next)?;
         i += 1;
     }
-    next
+    Ok(next)
 }
 
 // Reads to the end of the list. A proved loop has to end, and nothing says that the input does, so the loop counts down
 // from a number that no list uses up.
-fn replayed(line: &mut [u8], name: &mut [u8]) -> Tally {
+fn replayed(rt: &(impl Input + Print), line: &mut [u8], name: &mut [u8]) -> io::Result<Tally> {
+    let mut input = rt.reader();
     let mut t = Tally::new();
     let mut turns = u64::MAX;
     let mut more = true;
     while turns > 0 && more {
-        let mut bytes = io::buffer();
-        let n = io::read_full(0, &mut bytes);
-        t = all_fed(&bytes[..n], line, name, t);
-        more = n == 4096;
+        let mut bytes = [0u8; 4096];
+        let n = input.read(&mut bytes)?;
+        t = all_fed(rt, &bytes[..n], line, name, t)?;
+        more = n > 0;
         turns -= 1;
     }
     if t.length == 0 {
-        t
+        Ok(t)
     } else {
-        ended(line, name, t)
+        ended(rt, line, name, t)
     }
 }
 
-fn main() {
+fn main(rt: HostRuntime) -> io::Result<()> {
     let mut line = [0u8; 4096];
     let mut name = [0u8; 32];
-    let t = replayed(&mut line, &mut name);
-    t.print_group(&name);
-    t.print_all();
+    let t = replayed(&rt, &mut line, &mut name)?;
+    t.print_group(&rt, &name)?;
+    t.print_all(&rt)
 }

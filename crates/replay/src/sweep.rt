@@ -1,6 +1,5 @@
 // Sweeps over lists of bytes, which stand with their length before them. A sweep that accepts answers 0 and every byte.
-ghost use Rattle.std.specs.Prelude.{◌≤◌};
-ghost use Rattle.io.specs.Counts.{IsPrefixLen};
+ghost use Rattle.std.specs.Prelude.{◌≡◌, ◌≤◌, length, take};
 
 use crate::fields::{Fields, list_end};
 use crate::verdict::{Verdict, says};
@@ -38,7 +37,7 @@ fn count(from: usize, end: usize, most: usize) -> usize
 
 // Copies the numbers from `from` to `end` into bytes, and answers how many there are.
 fn bytes(x: &[u64; 256], from: usize, end: usize, out: &mut [u8]) -> usize
-    ensures { IsPrefixLen result out.new }
+    ensures { (result ≤ length out.new) × (result ≡ length (take result out.new)) }
 {
     let n = count(from, end, out.len());
     let mut i = 0usize;
@@ -86,8 +85,8 @@ fn applied(fields: Fields, x: &[u64; 256], d: &mut [u8], quadword: u64) -> Verdi
 }
 
 pub(crate) fn judge(name: &[u8], fields: Fields, x: &[u64; 256]) -> Verdict {
-    let mut d = io::buffer();
-    let mut s = io::buffer();
+    let mut d = [0u8; 4096];
+    let mut s = [0u8; 4096];
     if check::same(name, b"mul_slice") && are_bytes(x, 0) {
         let d_end = list_end(x, 0);
         let s_end = list_end(x, d_end);

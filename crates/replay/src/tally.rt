@@ -1,6 +1,6 @@
 // How many lines agreed.
 use crate::scan::part;
-use libc::STDOUT_FILENO;
+use std::io;
 
 #[derive(Clone, Copy)]
 pub(crate) struct Tally {
@@ -24,12 +24,8 @@ fn one_more_if(n: u64, counts: bool) -> u64 {
     if counts { one_more(n) } else { n }
 }
 
-fn print_counts(agreed: u64, cases: u64) {
-    io::write_all(STDOUT_FILENO, b": ");
-    io::print_decimal(STDOUT_FILENO, agreed);
-    io::write_all(STDOUT_FILENO, b" of ");
-    io::print_decimal(STDOUT_FILENO, cases);
-    io::write_all(STDOUT_FILENO, b" agree\n");
+fn print_counts(rt: &impl Print, agreed: u64, cases: u64) -> io::Result<()> {
+    println!(rt; ": {agreed} of {cases} agree")
 }
 
 impl Tally {
@@ -75,19 +71,19 @@ impl Tally {
     }
 
     // Writes the present group's name and counts, if there is a group.
-    pub(crate) fn print_group(self, name: &[u8]) {
+    pub(crate) fn print_group(self, rt: &impl Print, name: &[u8]) -> io::Result<()> {
         let n = self.name;
         if n == 0 {
-            return;
+            return Ok(());
         }
-        io::write_all(STDOUT_FILENO, part(name, 0, n));
-        print_counts(self.group_agreed, self.group_cases);
+        rt.write_all(part(name, 0, n))?;
+        print_counts(rt, self.group_agreed, self.group_cases)
     }
 
     // Writes the counts of all groups.
-    pub(crate) fn print_all(self) {
-        io::write_all(STDOUT_FILENO, b"in all");
-        print_counts(self.agreed, self.cases);
+    pub(crate) fn print_all(self, rt: &impl Print) -> io::Result<()> {
+        rt.write_all(b"in all")?;
+        print_counts(rt, self.agreed, self.cases)
     }
 }
 
@@ -102,11 +98,11 @@ fn copied(word: &[u8], name: &mut [u8]) -> usize {
 }
 
 // The tally in the group of a word: the present one, or a new one, and then the present one's counts are written.
-pub(crate) fn turned(word: &[u8], name: &mut [u8], t: Tally) -> Tally {
+pub(crate) fn turned(rt: &impl Print, word: &[u8], name: &mut [u8], t: Tally) -> io::Result<Tally> {
     let n = t.name;
     if check::same(word, part(name, 0, n)) {
-        return t;
+        return Ok(t);
     }
-    t.print_group(name);
-    t.with_group(copied(word, name))
+    t.print_group(rt, name)?;
+    Ok(t.with_group(copied(word, name)))
 }
