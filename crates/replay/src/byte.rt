@@ -1,5 +1,5 @@
 // The byte field and the tower byte.
-use crate::fields::Fields;
+use crate::numbers::Fields;
 use crate::verdict::{Verdict, says};
 use rijndael::{Inverse8, Node, Rijndael8b};
 use tower::BinaryField8;

@@ -5,8 +5,8 @@
 #![tactic(auto)]
 
 mod byte;
-mod fields;
 mod map;
+mod numbers;
 mod products;
 mod scan;
 mod sweep;
@@ -15,7 +15,7 @@ mod verdict;
 mod wide;
 mod word;
 
-use fields::Fields;
+use numbers::Fields;
 use scan::part;
 use std::io;
 use std::io::Read;
@@ -53,7 +53,7 @@ fn judge(name: &[u8], fields: Fields, x: &[u64; 256]) -> Verdict {
 // Whether a line, whose name ends at `end`, agrees; shows it where it does not.
 fn agrees(rt: &impl Print, line: &[u8], end: usize, number: u64) -> io::Result<bool> {
     let mut x = [0u64; 256];
-    let fields = fields::read(line, end, &mut x);
+    let fields = numbers::read(line, end, &mut x);
     match judge(part(line, 0, end), fields, &x) {
         Verdict::Agrees => Ok(true),
         Verdict::Differs => {

@@ -1,5 +1,5 @@
 // Byte maps. Eight images or coefficients stand as one number, the first in its lowest byte.
-use crate::fields::Fields;
+use crate::numbers::Fields;
 use crate::verdict::{Verdict, says};
 use frobenius::LinearizedPoly8b;
 use matrix::ByteMatrix;

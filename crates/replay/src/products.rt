@@ -1,5 +1,5 @@
 // Words, carryless products and their remainders.
-use crate::fields::Fields;
+use crate::numbers::Fields;
 use crate::verdict::{Verdict, says};
 use words::Limbs;
 

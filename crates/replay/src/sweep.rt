@@ -1,7 +1,7 @@
 // Sweeps over lists of bytes, which stand with their length before them. A sweep that accepts answers 0 and every byte.
 ghost use Rattle.std.specs.Prelude.{◌≡◌, ◌≤◌, length, take};
 
-use crate::fields::{Fields, list_end};
+use crate::numbers::{Fields, list_end};
 use crate::verdict::{Verdict, says};
 use matrix::ByteMatrix;
 use sweeps::Swept2;

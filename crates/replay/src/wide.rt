@@ -1,5 +1,5 @@
 // The field of 128 bits.
-use crate::fields::{Fields, list, list_end};
+use crate::numbers::{Fields, list, list_end};
 use crate::products::both;
 use crate::verdict::{Verdict, says};
 use gf128::Dot128;

@@ -1,5 +1,5 @@
 // The field of 64 bits.
-use crate::fields::{Fields, list, list_end};
+use crate::numbers::{Fields, list, list_end};
 use crate::verdict::{Verdict, says};
 use gf64::{Dot64, Inverse64};
 
