@@ -1,10 +1,5 @@
 -- What the numbers of answers tell; and an enum read as an answer is read in one way only.
-use mathlib.Core.Path.{◌≡◌, refl, sym, ap, ◌∙◌}
-use mathlib.Core.List.{[], ◌∷◌}
-use mathlib.Core.Logic.{◌≢◌}
-use Prim.Native.Nat.{ℕ}
-use native.Mathlib.Omega.{arith}
-use lib.ListN.{get_or}
+use Rattle.std.proofs.Common.{◌≡◌, ◌∙◌, refl, ℕ, sym, ap, arith, [], ◌∷◌, ◌≢◌, get_or}
 use Rattle.words.specs.declared.Limbs.{Limbs}
 use Rattle.answers.specs.Answer.{Answer, Value, Refused, Numbers, refusal, byte, word, wide, outcome}
 use Rattle.answers.specs.declared.Refusal.{Refusal}
@@ -93,8 +88,8 @@ one_byte = one byte unbyte read_byte
 pub one_word : {a b : Word} → word a ≡ word b → a ≡ b
 one_word = one word unword read_word
 
-pub one-wide : {a b : Wide} → wide a ≡ wide b → a ≡ b
-one-wide = one wide unwide read_wide
+pub one_wide : {a b : Wide} → wide a ≡ wide b → a ≡ b
+one_wide = one wide unwide read_wide
 
-pub one-outcome : {a b : Outcome} → outcome a ≡ outcome b → a ≡ b
-one-outcome = one outcome unoutcome read_outcome
+pub one_outcome : {a b : Outcome} → outcome a ≡ outcome b → a ≡ b
+one_outcome = one outcome unoutcome read_outcome

@@ -1,16 +1,10 @@
 -- Numbers in lent bytes, low byte first: each law once over the number of bytes.
-use mathlib.Core.Path.{◌≡◌, refl, sym, ap, ap₂, ◌∙◌}
-use mathlib.Core.List.{List, [], ◌∷◌, ◌++◌}
-use Prim.Native.Nat.{ℕ, zero, suc, ◌+◌, ◌*◌, ◌/◌, ◌%◌, ◌^◌, ◌≤◌, ◌<◌}
-use native.Mathlib.Nat.{zero-add, suc-add, mul_assoc, zero-mul, mul-one, add-zero, add_comm, mod-one, div-one, le_of_suc-le-suc, not-suc-le-zero}
-use native.Mathlib.Numerals.{add-one}
-use native.Mathlib.Omega.{arith}
-use lib.Arith.{mod-mul}
-use lib.Bits.{xor_comm, xor_shifted}
-use lib.Dec.{lit<}
-use lib.ListN.{length, get_or, set, take, drop}
-use lib.Seq.{get_or-drop, paste, paste-suc, length-paste}
-use lib.Pow.{shl_exact, pow-add, pow_pos, shr-shr}
+use Rattle.std.proofs.Common.{◌≡◌, ◌∙◌, refl, length, set, take, drop, sym, ap, ap₂, zero-add, suc-add, zero-mul, mul-one, add-zero, div-one, not-suc-le-zero, add-one, arith, lit<, pow-add, shr-shr, List, [], ◌∷◌, ◌++◌, ℕ, zero, suc, ◌+◌, ◌*◌, ◌/◌, ◌%◌, ◌^◌, ◌≤◌, ◌<◌, mul_assoc, add_comm, le_of_suc-le-suc, get_or, get_or-drop, shl_exact, pow_pos}
+use Rattle.std.proofs.Math.Nat.{mod-one}
+use Rattle.std.proofs.Math.Arith.{mod-mul}
+use Rattle.std.specs.Int.Bits.{xor_comm, xor_shifted}
+use Rattle.std.proofs.Math.Seq.{paste, paste-suc}
+use Rattle.std.proofs.lemmas.List.Edits.{length-paste}
 use Rattle.gf2.specs.Poly.{◌⊕◌}
 use Rattle.answers.specs.Lent.{word_of, bytes_of, Bytes}
 

@@ -1,13 +1,8 @@
 -- In a field the refusing inverse and the division are what `Quotients` says.
-use mathlib.Core.Path.{◌≡◌, refl, sym, ap, ◌∙◌}
-use mathlib.Core.Bool.{Bool, true, false}
-use mathlib.Core.Logic.Iff
-use mathlib.Core.Logic.{◌↔◌, ◌≢◌}
-use Prim.Native.Nat.{ℕ, ◌^◌, ◌<◌}
-use native.Mathlib.Decide.{ℕ_discrete}
-use native.Mathlib.Omega.{arith}
-use borrow.Author.Tests.{eqb-false, eq-eqb, ne_eqb}
-use lib.Dec.{eqb}
+use Rattle.std.proofs.Common.{◌≡◌, ◌∙◌, refl, Bool, true, false, eqb, sym, ap, arith, ◌↔◌, ◌≢◌, ℕ, ◌^◌, ◌<◌, eq-eqb, ne_eqb}
+use Rattle.std.proofs.Math.Logic.Iff
+use Rattle.std.proofs.Math.Decide.{ℕ_discrete}
+use borrow.Author.Tests.{eqb-false}
 use Rattle.gf2.specs.Residue.{mul, inv}
 use Rattle.gf2.specs.Field.{Field}
 use Rattle.gf2.proofs.Ring.{mul_comm, mul_assoc, mul-zero_r, mul-one_r}

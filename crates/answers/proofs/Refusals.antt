@@ -1,10 +1,7 @@
 -- A refusal by a test is given exactly where the test holds, and where it fails the call accepts; of two, the first comes first.
-use mathlib.Core.Path.{◌≡◌, refl, sym, ap}
-use mathlib.Core.Bool.{Bool, true, false, not, true≢false, false≢true}
-use mathlib.Core.Logic.{◌↔◌, ◌≢◌}
-use Prim.Native.Nat.{ℕ, ◌≤◌, ◌<◌}
-use borrow.Author.Tests.{eqb-true, eqb-false, eq-eqb, ne_eqb, leb-true, leb-false, le-leb, lt-leb, ltb-true, ltb-false, lt-ltb, le-ltb, not-true, not-false}
-use lib.Dec.{eqb, leb, ltb}
+use Rattle.std.proofs.Common.{◌≡◌, refl, Bool, true, false, not, eqb, leb, ltb, sym, ap, true≢false, ◌↔◌, ◌≢◌, ℕ, ◌≤◌, ◌<◌, eqb-true, eq-eqb, ne_eqb, leb-true, leb-false, le-leb, ltb-true, ltb-false, lt-ltb, le-ltb}
+use Rattle.std.proofs.lemmas.Bool.{false≢true}
+use borrow.Author.Tests.{eqb-false, lt-leb, not-true, not-false}
 use Rattle.answers.specs.Answer.{Answer, Value, Refused, number, refusal, refuse_if, mapped, Exactly, Accepts}
 use Rattle.answers.specs.declared.Refusal.{Refusal}
 use Rattle.answers.proofs.Answer.{refusal_not_0}

@@ -1,15 +1,7 @@
 -- Lent bytes after a number was written into the first of them; and what readers and writers answer.
-use mathlib.Core.Path.{◌≡◌, sym, ap, ap₂, ◌∙◌}
-use mathlib.Core.Bool.{Bool}
-use mathlib.Core.List.{List, ◌++◌}
-use Prim.Native.Nat.{ℕ, ◌+◌, ◌*◌, ◌^◌, ◌≤◌, ◌<◌}
-use native.Mathlib.Nat.{mod-eq_of_lt, zero-add, le_of_eq}
-use native.Mathlib.Decide.{dec_le}
-use native.Mathlib.Omega.{arith}
-use borrow.Author.Tests.{lt-ltb, le-ltb}
-use lib.Dec.{ltb}
-use lib.ListN.{length, take, drop, take-append-drop}
-use lib.Seq.{paste, take_all, take_at, drop-append-add, drop-drop, length_front, length-take-le, drop_at}
+use Rattle.std.proofs.Common.{◌≡◌, ◌∙◌, sym, ap, ap₂, zero-add, arith, lt-ltb, le-ltb, take-append-drop, drop-drop, length-take-le, Bool, ltb, length, take, drop, List, ◌++◌, ℕ, ◌+◌, ◌*◌, ◌^◌, ◌≤◌, ◌<◌, mod-eq_of_lt, le_of_eq, take_all, take_at, drop_at}
+use Rattle.std.proofs.Math.Decide.{dec_le}
+use Rattle.std.proofs.Math.Seq.{paste, drop-append-add, length_front}
 use Rattle.gf2.specs.Bits.{pick}
 use Rattle.answers.specs.Answer.{Value}
 use Rattle.answers.specs.Lent.{word_of, bytes_of, read_of, written, Bytes, Lent}

@@ -1,9 +1,6 @@
 -- ANSWERS: a call that may refuse answers its value, or one of the numbered refusals. The enums of src/ say this to code for
 -- each type of value; here they are read as one notion, of which a contract speaks.
-use mathlib.Core.Path.{◌≡◌}
-use mathlib.Core.Bool.{Bool}
-use mathlib.Core.Logic.{◌↔◌, ◌≢◌}
-use Prim.Native.Nat.{ℕ}
+use Rattle.std.specs.Prelude.{◌≡◌, Bool, ℕ, ◌↔◌, ◌≢◌}
 use Rattle.gf2.specs.Bits.{pick}
 use Rattle.words.specs.declared.Limbs.{Limbs}
 use Rattle.answers.specs.declared.Refusal.{Refusal}

@@ -1,9 +1,5 @@
 -- Numbers in lent bytes, low byte first, at any number of bytes: what a reader and a writer answer, and what a writer leaves.
-use mathlib.Core.Path.{◌≡◌}
-use mathlib.Core.List.{List, [], ◌∷◌, ◌++◌}
-use Prim.Native.Nat.{ℕ, zero, suc, ◌+◌, ◌*◌, ◌/◌, ◌%◌, ◌^◌, ◌≤◌, ◌<◌}
-use lib.Dec.{ltb}
-use lib.ListN.{length, get_or, drop}
+use Rattle.std.specs.Prelude.{◌≡◌, List, [], ◌∷◌, ◌++◌, ℕ, zero, suc, ◌+◌, ◌*◌, ◌/◌, ◌%◌, ◌^◌, ◌≤◌, ◌<◌, ltb, length, drop, get_or}
 use Rattle.gf2.specs.Bits.{pick}
 use Rattle.answers.specs.Answer.{Answer, Value, Exactly, Accepts, refuse_if}
 use Rattle.answers.specs.declared.Refusal.TheVariants.{Short}

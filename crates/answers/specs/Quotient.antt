@@ -1,8 +1,5 @@
 -- The refusing inverse and the division, at any modulus.
-use mathlib.Core.Path.{◌≡◌}
-use mathlib.Core.Logic.{◌≢◌}
-use Prim.Native.Nat.{ℕ, ◌^◌, ◌<◌}
-use lib.Dec.{eqb}
+use Rattle.std.specs.Prelude.{◌≡◌, ◌≢◌, ℕ, ◌^◌, ◌<◌, eqb}
 use Rattle.gf2.specs.Residue.{mul, inv}
 use Rattle.answers.specs.Answer.{Answer, Value, Exactly, refuse_if}
 use Rattle.answers.specs.declared.Refusal.TheVariants.{NoInverse}

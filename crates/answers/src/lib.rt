@@ -1,7 +1,7 @@
 // What a call answers that may refuse: its value, or one of the numbered refusals. One vocabulary for all crates above.
 #![tactic(auto)]
 
-ghost use mathlib.Core.Path.{◌≡◌};
+ghost use Rattle.std.specs.Prelude.{◌≡◌};
 ghost use Rattle.answers.specs.Answer.{refusal, number, outcome};
 
 use words::Limbs;

@@ -1,8 +1,8 @@
 -- The words of a line, one after another.
 use Rattle.std.proofs.Common.{◌≡◌, ℕ, zero, suc, ◌+◌, ◌<◌, true, false, ◌&&◌, List, add-one, arith}
-use mathlib.Core.Bool.{and-false}
-use native.Mathlib.Decide.{ℕ_discrete}
-use Rattle.hex.specs.declared.Hex.TheVariants.{Value, Bad}
+use Rattle.std.proofs.Math.Bool.{and-false}
+use Rattle.std.proofs.Math.Decide.{ℕ_discrete}
+use Rattle.hexadecimal.specs.declared.Hex.TheVariants.{Value, Bad}
 use Rattle.records.specs.Lines.{word_at, is_number, numbers}
 
 module _ (s : List ℕ) where

@@ -1,9 +1,9 @@
 -- LINES: what a line of a recorded list says.
 use Rattle.std.specs.Prelude.{ℕ, zero, suc, ◌*◌, Bool, true, false, ◌&&◌, List, take, drop, ◌==◌, slice_index}
 use Rattle.gf2.specs.Bits.{pick, tab}
-use Rattle.hex.specs.Hex.{hex_of}
-use Rattle.hex.specs.declared.Hex.{Hex}
-use Rattle.hex.specs.declared.Hex.TheVariants.{Value, Bad}
+use Rattle.hexadecimal.specs.Hex.{hex_of}
+use Rattle.hexadecimal.specs.declared.Hex.{Hex}
+use Rattle.hexadecimal.specs.declared.Hex.TheVariants.{Value, Bad}
 use Rattle.records.specs.declared.Line.{Line}
 use Rattle.records.specs.declared.Shown.{Shown}
 

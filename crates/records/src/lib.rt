@@ -10,7 +10,7 @@ ghost use Rattle.records.specs.Shown.{shown, small, shown_left, no_answer, refus
 ghost use Rattle.records.specs.Tally.{none_of, with_of, closed_of, one_more_if_of};
 
 use answers::{Byte, Outcome, Refusal, Wide, Word};
-use hex::Hex;
+use hexadecimal::Hex;
 
 // A line as it was read.
 #[derive(Clone, Copy)]
@@ -46,7 +46,7 @@ fn word_at(text: &[u8], k: usize) -> Hex
 {
     let from = 17 * k;
     let end = from + 16;
-    hex::parse_hex(&text[from..end])
+    hexadecimal::parse_hex(&text[from..end])
 }
 
 // The words of a line.
