@@ -1,3 +1,4 @@
 pub mod Line
+pub mod Packing
 pub mod Refusals
 pub mod Unique

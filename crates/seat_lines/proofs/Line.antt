@@ -1,8 +1,5 @@
 -- The line from its parts, as code has them: the places of the number, and the two pictures entry by entry.
-use mathlib.Core.Path.{◌≡◌, refl, ◌∙◌}
-use mathlib.Core.List.{List, [], ◌∷◌}
-use Prim.Native.Nat.{ℕ, ◌+◌, ◌%◌}
-use lib.ListN.{get_or}
+use Rattle.std.proofs.Common.{◌≡◌, ◌∙◌, refl, List, [], ◌∷◌, ℕ, ◌+◌, ◌%◌, get_or}
 use Rattle.gf2.specs.Bits.{tab}
 use Rattle.coach.specs.Rows.{drawn}
 use Rattle.seat_lines.specs.Line.{place_of, line_of}

@@ -1,24 +1,20 @@
 -- The refusal is given exactly in its case, and the value in every other; and it is what a map's packing leads to that finds too
 -- few words.
-use mathlib.Core.Path.{◌≡◌, sym, ap}
-use mathlib.Core.Bool.{Bool}
-use mathlib.Core.List.{List}
-use mathlib.Core.Logic.Iff
-use mathlib.Core.Logic.{◌↔◌}
-use Prim.Native.Nat.{ℕ, ◌*◌, ◌≤◌, ◌<◌}
-use native.Mathlib.Omega.{arith}
-use borrow.Author.Tests.{lt-ltb}
-use lib.Dec.{ltb}
-use lib.ListN.{length}
-use Rattle.answers.specs.Answer.{Value, Refused, refuse_if}
-use Rattle.answers.specs.declared.Refusal.{Refusal}
+use Rattle.std.proofs.Common.{◌≡◌, ◌↔◌, ℕ, ◌*◌, ◌≤◌, ◌<◌, sym, ap, Bool, List, ltb, length, arith, lt-ltb, le-ltb, le-leb}
+use Rattle.std.proofs.Math.Logic.Iff
+use Rattle.std.proofs.lemmas.Bool.{lt-leb}
+use Rattle.std.proofs.Math.Decide.{dec_le}
+use Rattle.answers.specs.Answer.{Answer, Value, Refused, refuse_if}
 use Rattle.answers.specs.declared.Refusal.TheVariants.{TooManyWords}
-use Rattle.answers.proofs.Refusals.{accepts_where, not_below}
-use Rattle.fingerprint.specs.Print.{limit, print-of, fingerprint-of}
-use Rattle.fingerprint.proofs.Refusals.{refusals-print}
-use Rattle.coach.specs.Rows.{row_words, packing-of}
-use Rattle.coach.proofs.Packing.{length-words, packing-refused}
+use Rattle.answers.proofs.Refusals.{refuses, accepts_where, below, not_below}
+use Rattle.fingerprint.specs.Print.{limit, print_of, answer}
+use Rattle.fingerprint.specs.declared.Print.{Print}
+use Rattle.fingerprint.specs.declared.Print.TheVariants as print-answer
+use Rattle.coach.specs.Rows.{packed_answer}
+use Rattle.coach.specs.declared.Packed.TheVariants.{Short}
+use Rattle.seat_lines.specs.Print.{row_words, fingerprint_of}
 use Rattle.seat_lines.specs.Refusals.{RefusalsRows}
+use Rattle.seat_lines.proofs.Packing.{length-words, packing_refused}
 
 -- more words than the limit, exactly where there are more rows than eight times as many
 too_many : (rows : List ℕ) → (limit < length (row_words rows)) ↔ (8 * limit < length rows)
@@ -31,15 +27,30 @@ few_enough rows = (λ h. omega (arith, length-words rows), λ h. omega (arith, l
 
 pub refusals_rows : RefusalsRows
 refusals_rows = record {
-  print_refuses = λ rows point. Iff.trans (refusals-print.print_refuses (row_words rows) point) (too_many rows);
+  print_refuses = λ rows point. refuses (ltb limit (length (row_words rows))) TooManyWords (print_of (row_words rows) point)
+      (Iff.trans (below limit (length (row_words rows))) (too_many rows));
   print_accepts = λ rows point.
-      accepts_where (ltb limit (length (row_words rows))) TooManyWords (print-of (row_words rows) point)
+      accepts_where (ltb limit (length (row_words rows))) TooManyWords (print_of (row_words rows) point)
       (Iff.trans (not_below limit (length (row_words rows))) (few_enough rows));
 }
 
 -- packing into as many words as a fingerprint may have refuses: so does the fingerprint
-pub print_refused : (rows old : List ℕ) {why : Refusal} (point : ℕ) → length old ≡ limit → Refused why ≡ packing-of rows old
-    → Refused TooManyWords ≡ fingerprint-of (row_words rows) point
+pub print_refused : (rows old : List ℕ) (point : ℕ) → length old ≡ limit → Short ≡ packed_answer rows old
+    → Refused TooManyWords ≡ fingerprint_of (row_words rows) point
 print_refused rows old point l e =
-    let h : limit < length (row_words rows) = rw l at (packing-refused rows old e) in
-    sym (ap (λ (t : Bool). refuse_if t TooManyWords (Value (print-of (row_words rows) point))) (lt-ltb limit (length (row_words rows)) h))
+    let h : limit < length (row_words rows) = rw l at (packing_refused rows old e) in
+    sym (ap (λ (t : Bool). refuse_if t TooManyWords (Value (print_of (row_words rows) point))) (lt-ltb limit (length (row_words rows)) h))
+
+-- what the fingerprint of words answers, as an answer with a value or a refusal
+abbrev pub read_print : Print → Answer ℕ
+read_print (print-answer.Value v) = Value v
+read_print print-answer.TooManyWords = Refused TooManyWords
+
+pub print_read : (words : List ℕ) (point : ℕ) → read_print (answer words point) ≡ fingerprint_of words point
+print_read words point = go (dec_le (length words) limit)
+  where
+    go : Dec (length words ≤ limit) → read_print (answer words point) ≡ fingerprint_of words point
+    go (yes h) = simp (le-leb (length words) limit h, le-ltb limit (length words) h)
+    go (no n) =
+        let h : limit < length words = omega arith in
+        simp (lt-leb (length words) limit h, lt-ltb limit (length words) h)

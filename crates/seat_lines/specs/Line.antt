@@ -1,8 +1,5 @@
 -- A line of the picture: the row's number, its seats before and after, in ASCII.
-use mathlib.Core.List.{List, [], ◌∷◌, ◌++◌}
-use Prim.Native.Nat.{ℕ, ◌+◌, ◌/◌, ◌%◌}
-use lib.Dec.{ltb}
-use lib.ListN.{take, drop}
+use Rattle.std.specs.Prelude.{List, [], ◌∷◌, ◌++◌, ℕ, ◌+◌, ◌/◌, ◌%◌, ltb, take, drop}
 use Rattle.gf2.specs.Bits.{pick}
 use Rattle.coach.specs.Rows.{drawn}
 

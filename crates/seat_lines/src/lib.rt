@@ -1,15 +1,18 @@
 // What `seats` shows of a map: a line of its picture, a row of the coach before and after a swap; and its fingerprint.
 #![tactic(auto)]
 
-ghost use mathlib.Core.Path.{◌≡◌};
-ghost use Prim.Native.Nat.{◌*◌, ◌<◌};
+ghost use Rattle.std.specs.Prelude.{◌≡◌, ◌*◌, ◌<◌};
 ghost use Rattle.answers.specs.Answer.{word};
-ghost use Rattle.fingerprint.specs.Print.{limit, fingerprint-of};
-ghost use Rattle.coach.specs.Rows.{row_words};
+ghost use Rattle.fingerprint.specs.Print.{limit};
 ghost use Rattle.seat_lines.specs.Line.{place_of, line_of};
+ghost use Rattle.seat_lines.specs.Print.{row_words, fingerprint_of};
 
 use answers::{Refusal, Word};
-use fingerprint::LIMIT;
+use coach::Packed;
+use fingerprint::Print;
+
+// As many words have a fingerprint, and no more. `rows` ties it to the number in the fingerprint's contract.
+const LIMIT: usize = 4096;
 
 // As many rows have a fingerprint, and no more: eight for each word.
 pub const ROWS: usize = 8 * LIMIT;
@@ -74,11 +77,14 @@ pub fn row_line(number: usize, before: u8, after: u8) -> [u8; 29]
 
 // The fingerprint of a map at a point, that of its words; or refusal 6 where they are too many.
 pub fn fingerprint_rows(rows: &[u8], point: u64) -> Word
-    ensures { word result ≡ fingerprint-of (row_words rows.now) point }
+    ensures { word result ≡ fingerprint_of (row_words rows.now) point }
 {
     let mut words = [0u64; LIMIT];
-    let Word::Value(count) = coach::pack_rows(rows, &mut words) else {
+    let Packed::Words(count) = coach::pack_rows(rows, &mut words) else {
         return Word::Refused(Refusal::TooManyWords);
     };
-    fingerprint::fingerprint(&words[..count as usize], point)
+    match fingerprint::fingerprint(&words[..count], point) {
+        Print::Value(sum) => Word::Value(sum),
+        Print::TooManyWords => Word::Refused(Refusal::TooManyWords),
+    }
 }
