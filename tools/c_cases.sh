@@ -1,6 +1,7 @@
 #!/usr/bin/env bash
-# The C header at work: builds the static library, holds include/togasipe.h to it, and compiles, links and runs the program of
-# tools/c, which knows the header only. The last line counts the program's cases, or says what was left out and why (status 77).
+# The C header at work: builds the static library, holds include/togasipe.h and wrapper/src/ffi.rs to it, compiles, links and runs the
+# header's example, examples/swap.c over an installed copy, and the program of tools/c, which knows the header only. The last line
+# counts the program's cases, or says what was left out and why (status 77).
 #     CC and CXX name other compilers.
 set -eu
 cd "$(dirname "$0")/.."
@@ -29,5 +30,6 @@ if command -v "$cxx" > /dev/null; then
     "$cxx" -std=c++11 "${flags[@]}" tools/c/from_cpp.cpp "$archive" -o "$out/from_cpp"
     "$out/from_cpp" || { echo "c: FAILED: the same answers from C++"; exit 1; }
 fi
+tools/c/shown.sh "$cc" "$out"
 "$cc" -std=c99 "${flags[@]}" tools/c/*.c "$archive" -o "$out/cases"
 "$out/cases"

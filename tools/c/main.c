@@ -1,4 +1,4 @@
-/* Links the static library by its header alone and holds every call to document 01: its table of cases, each refusal with
+/* Links the static library by its header alone and holds every call to docs/SCOPE.md: the worked cases, each refusal with
  * the lent memory as it was, and the definitions computed bit by bit. The last line counts. */
 #include "check.h"
 

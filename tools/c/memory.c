@@ -1,10 +1,10 @@
-/* Readers and writers, at every room to 40 bytes and at every alignment; and the fingerprint. */
+/* Readers and writers, at every room to 40 bytes and at every alignment; rows as words; and the fingerprint. */
 #include "togasipe.h"
 
 #include "by_bits.h"
 #include "check.h"
 
-enum { LIST = 1000, OUT = 50000, ROOM = 40 };
+enum { LIST = 1000, OUT = 50000, ROWS = 60001, ROOM = 40 };
 
 /* A value of `count` bytes, taken apart by shifts: byte k of it is its bits 8k to 8k+7. */
 static void bytes_by_shifts(const uint64_t words[2], uint8_t *bytes, size_t count)
@@ -82,6 +82,63 @@ static void readers_and_writers(void)
     expect(pair[1], 7);
 }
 
+/* So many rows packed into `room` words: which words are written, and how many. */
+static void packed(size_t rows, size_t room)
+{
+    uint64_t count = rows / 8 + (rows % 8 != 0);
+    size_t i;
+    fresh();
+    for (i = 0; i < 8 * count; i++) {
+        uint8_t row = i < rows ? (uint8_t)next_random() : 0;
+        if (i < rows) {
+            lend(ROWS + i, &row, 1);
+        }
+        expect_written(LIST + 8 * (i / 8) + i % 8, &row, 1);
+    }
+    expect_written(OUT, &count, 8);
+    expect_at(rows, togasipe_pack_rows(bytes_at(ROWS), rows, words_at(LIST), room, words_at(OUT)), TOGASIPE_OK);
+    expect_memory();
+}
+
+/* The sample coach of the program `seats`, before and after its rows are turned around. */
+static void coach(void)
+{
+    static const uint64_t prints[2] = {UINT64_C(0xd4303866f197c66a), UINT64_C(0xe8303866f254093c)};
+    uint8_t rows[13] = {0xf0, 0x0f, 0x81, 0x66, 0x00, 0xff, 0x3c, 0xaa, 0x01, 0xc3, 0x18, 0x7e, 0x24};
+    uint64_t words[2] = {0, 0}, count = 0, print = 0;
+    unsigned turned;
+    begin("rows: the sample coach and its fingerprints");
+    for (turned = 0; turned < 2; turned++) {
+        expect(togasipe_pack_rows(rows, 13, words, 2, &count), TOGASIPE_OK);
+        expect(count, 2);
+        expect(words[1] >> 40, 0);
+        expect(togasipe_fingerprint(words, count, 0x2a, &print), TOGASIPE_OK);
+        expect(print, prints[turned]);
+        togasipe_apply_slice(UINT64_C(0x8040201008040201), rows, 13);
+    }
+}
+
+static void rows_as_words(void)
+{
+    size_t rows;
+    uint64_t count = 7;
+    begin("rows: 0 to 100 in just as many words as they need");
+    for (rows = 0; rows <= 100; rows++) {
+        packed(rows, (rows + 7) / 8);
+    }
+    begin("rows: 0 to 100 in more words, which stay");
+    for (rows = 0; rows <= 100; rows++) {
+        packed(rows, 40);
+    }
+    begin("rows: 32,767 and 32,768");
+    packed(8 * TOGASIPE_FINGERPRINT_LIMIT - 1, TOGASIPE_FINGERPRINT_LIMIT);
+    packed(8 * TOGASIPE_FINGERPRINT_LIMIT, TOGASIPE_FINGERPRINT_LIMIT);
+    begin("rows: none at no address");
+    expect(togasipe_pack_rows(NULL, 0, NULL, 0, &count), TOGASIPE_OK);
+    expect(count, 0);
+    coach();
+}
+
 /* The fingerprint of `count` lent words, worked out word by word. */
 static void fingerprint_of(size_t count, uint64_t point)
 {
@@ -121,5 +178,6 @@ static void fingerprints(void)
 void memory_cases(void)
 {
     readers_and_writers();
+    rows_as_words();
     fingerprints();
 }

@@ -1,4 +1,4 @@
-/* Every refusal: its number, and every byte of the lent memory as it was. */
+/* Every refusal: its number, and every byte of the lent memory as it was. And the version, a number too. */
 #include "togasipe.h"
 
 #include "check.h"
@@ -86,6 +86,19 @@ static void too_short(void)
     }
 }
 
+/* Rows that need 1 to 13 words, in fewer. */
+static void too_few_words(void)
+{
+    size_t rows, room;
+    begin("refusal 4: rows in too few words");
+    for (rows = 1; rows <= 100; rows++) {
+        for (room = 0; 8 * room < rows; room++) {
+            expect_at(rows, togasipe_pack_rows(bytes_at(FIRST), rows, words_at(SECOND), room, words_at(OUT)), TOGASIPE_SHORT);
+            expect_memory();
+        }
+    }
+}
+
 static void odd_limbs(void)
 {
     size_t n;
@@ -121,13 +134,24 @@ static void numbers(void)
     expect(TOGASIPE_TOO_MANY_WORDS, 6);
 }
 
+static void version(void)
+{
+    begin("the library's version is the header's");
+    expect(togasipe_version(), TOGASIPE_VERSION);
+    expect(togasipe_version() >> 16, TOGASIPE_VERSION_MAJOR);
+    expect(togasipe_version() >> 8 & 0xff, TOGASIPE_VERSION_MINOR);
+    expect(togasipe_version() & 0xff, TOGASIPE_VERSION_PATCH);
+}
+
 void refusal_cases(void)
 {
     numbers();
+    version();
     no_inverse();
     lengths_differ();
     bad_index();
     too_short();
+    too_few_words();
     odd_limbs();
     too_many_words();
 }

@@ -55,6 +55,8 @@ unsafe extern "C" {
     pub safe fn togasipe_tower_mul(a: u8, b: u8) -> u8;
     pub safe fn togasipe_tower_to_rijndael(a: u8) -> u8;
     pub safe fn togasipe_tower_from_rijndael(a: u8) -> u8;
+
+    pub safe fn togasipe_version() -> u32;
 }
 
 /// The calls that take lists: a pointer and a length each.
@@ -71,6 +73,7 @@ mod lists {
         pub fn togasipe_write_64(v: u64, d: *mut u8, dl: usize) -> u32;
         pub fn togasipe_read_128(s: *const u8, sl: usize, out: &mut [u64; 2]) -> u32;
         pub fn togasipe_write_128(low: u64, high: u64, d: *mut u8, dl: usize) -> u32;
+        pub fn togasipe_pack_rows(rows: *const u8, rl: usize, words: *mut u64, wl: usize, out: &mut u64) -> u32;
         pub fn togasipe_fingerprint(words: *const u64, wl: usize, point: u64, out: &mut u64) -> u32;
     }
 }
@@ -120,6 +123,10 @@ pub fn read_128(s: &[u8], out: &mut [u64; 2]) -> u32 {
 
 pub fn write_128(value: [u64; 2], d: &mut [u8]) -> u32 {
     unsafe { lists::togasipe_write_128(value[0], value[1], d.as_mut_ptr(), d.len()) }
+}
+
+pub fn pack_rows(rows: &[u8], words: &mut [u64], out: &mut u64) -> u32 {
+    unsafe { lists::togasipe_pack_rows(rows.as_ptr(), rows.len(), words.as_mut_ptr(), words.len(), out) }
 }
 
 pub fn fingerprint(words: &[u64], point: u64, out: &mut u64) -> u32 {

@@ -1,5 +1,6 @@
-//! Readers, writers and the fingerprint. The given Rust has a reader and the bytes of an element at 8 and 64 bits; at 128
-//! bits the standard library stands in. The fingerprint is computed with the given product.
+//! The version, readers, writers, rows as words and the fingerprint. The version is the one that the header says in words.
+//! The given Rust has a reader and the bytes of an element at 8 and 64 bits; at 128 bits and for rows the standard library
+//! stands in. The fingerprint is computed with the given product.
 
 use oracle::api::{bytes, gf64};
 
@@ -27,6 +28,30 @@ fn read<T>(before: T, given: impl Fn() -> T) -> (u32, T) {
     if panics(&given) { (SHORT, before) } else { (0, given()) }
 }
 
+/// What packing leaves: the rows' words over the first ones and their number, or everything as it was.
+fn packed(rows: &[u8], before: &[u64]) -> (u32, (Vec<u64>, u64)) {
+    let mut after = before.to_vec();
+    let chunks = rows.chunks(8);
+    let count = chunks.len();
+    if count > before.len() {
+        return (SHORT, (after, BEFORE_64));
+    }
+    for (word, chunk) in after.iter_mut().zip(chunks) {
+        let mut bytes = [0; 8];
+        bytes[..chunk.len()].copy_from_slice(chunk);
+        *word = u64::from_le_bytes(bytes);
+    }
+    (0, (after, count as u64))
+}
+
+/// The version that the header says in words, as one number: three numbers below 256, the first one highest.
+fn version() -> u32 {
+    let header = include_str!("../../include/togasipe.h");
+    let (_, text) = header.split_once("#define TOGASIPE_VERSION_TEXT \"").expect("the header says its version");
+    let (text, _) = text.split_once('"').expect("the version ends");
+    text.split('.').fold(0, |number, part| number << 8 | part.parse::<u32>().expect("a part is a number"))
+}
+
 fn print(words: &[u64], point: u64) -> (u32, u64) {
     if words.len() > LIMIT {
         return (TOO_MANY_WORDS, BEFORE_64);
@@ -35,6 +60,7 @@ fn print(words: &[u64], point: u64) -> (u32, u64) {
 }
 
 pub fn compare(report: &mut Report) {
+    report.call("version", |call| call.same((), togasipe_version(), version()));
     report.call("rijndael_read, rijndael_write", |call| {
         let mut source = Source::new("rijndael_read");
         for n in 0..=20 {
@@ -72,6 +98,16 @@ pub fn compare(report: &mut Report) {
                 call.same(&list, answered(BEFORE_128, |out| read_128(&list, out)), oracle);
                 let ours = answered(list.clone(), |list| write_128(limbs(v), list));
                 call.same((v, &list), ours, written(&list, &v.to_le_bytes()));
+            }
+        }
+    });
+    report.call("pack_rows", |call| {
+        let mut source = Source::new("pack_rows");
+        for n in (0..=200).chain([8 * LIMIT - 1, 8 * LIMIT, 8 * LIMIT + 1]) {
+            for room in (0..=30).chain([LIMIT, LIMIT + 1]) {
+                let (rows, words) = (source.bytes(n), source.words(room));
+                let ours = answered((words.clone(), BEFORE_64), |(words, out)| pack_rows(&rows, words, out));
+                call.same((n, room), ours, packed(&rows, &words));
             }
         }
     });

@@ -6,7 +6,7 @@
 use std::error::Error;
 use std::io::{self, Read};
 
-use togasipe::{ByteMatrix, Refusal, fingerprint};
+use togasipe::{ByteMatrix, Refusal, fingerprint, pack_rows};
 
 /// The map that turns a row of eight seats around.
 const SWAP: ByteMatrix = ByteMatrix::from_quadword(0x8040_2010_0804_0201);
@@ -14,17 +14,11 @@ const SWAP: ByteMatrix = ByteMatrix::from_quadword(0x8040_2010_0804_0201);
 /// The point of the fingerprint.
 const POINT: u64 = 0x2a;
 
-/// The fingerprint of a map: eight rows a word, the first one lowest, the last word filled with zeros.
+/// The fingerprint of a map, as the program `seats` has it.
 fn print_of(map: &[u8]) -> Result<u64, Refusal> {
-    let words: Vec<u64> = map
-        .chunks(8)
-        .map(|rows| {
-            let mut word = [0; 8];
-            word[..rows.len()].copy_from_slice(rows);
-            u64::from_le_bytes(word)
-        })
-        .collect();
-    fingerprint(&words, POINT)
+    let mut words = vec![0; map.len().div_ceil(8)];
+    let count = pack_rows(map, &mut words)?;
+    fingerprint(&words[..count], POINT)
 }
 
 fn main() -> Result<(), Box<dyn Error>> {

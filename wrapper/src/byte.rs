@@ -1,9 +1,7 @@
 //! The byte field of FIPS 197.
 
-use std::ops::{Add, Mul};
-
 use crate::ffi::*;
-use crate::operators::{byte_streams, division, ring_operators, shown_as_bits};
+use crate::operators::byte_element;
 use crate::refusal::{Refusal, answered, value, written};
 use crate::{BinaryField8, ByteMatrix};
 
@@ -29,10 +27,6 @@ impl Rijndael8b {
     pub const ZERO: Self = Self(0);
     /// One.
     pub const ONE: Self = Self(1);
-    /// One and one, which is zero.
-    pub const TWO: Self = Self::ZERO;
-    /// The negative of one, which is one.
-    pub const NEG_ONE: Self = Self::ONE;
     /// The image of tower byte 0x13; its first 255 powers are distinct.
     pub const GENERATOR: Self = Self(0x88);
 
@@ -55,19 +49,6 @@ impl Rijndael8b {
         self.0
     }
 
-    /// The element with these bits.
-    #[inline]
-    pub const fn from_repr(byte: u8) -> Self {
-        Self(byte)
-    }
-
-    /// The element's bits.
-    #[must_use]
-    #[inline]
-    pub const fn to_repr(self) -> u8 {
-        self.0
-    }
-
     /// The square.
     #[inline]
     pub fn square(&self) -> Self {
@@ -86,12 +67,6 @@ impl Rijndael8b {
         Self(togasipe_rijndael_sqrt(self.0))
     }
 
-    /// The square root, always `Some`: the old crate's form of [`sqrt`](Self::sqrt).
-    #[inline]
-    pub fn try_sqrt(&self) -> Option<Self> {
-        Some(self.sqrt())
-    }
-
     /// The inverse, and zero for zero.
     #[inline]
     pub fn invert_or_zero(self) -> Self {
@@ -104,36 +79,10 @@ impl Rijndael8b {
         value(|out| togasipe_rijndael_try_inverse(self.0, out)).ok().map(Self)
     }
 
-    /// The inverse.
-    ///
-    /// # Panics
-    ///
-    /// Panics for zero, as the old crate does; [`try_inverse`](Self::try_inverse) answers `None`.
-    #[inline]
-    pub fn inverse(&self) -> Self {
-        self.try_inverse().expect("Tried to invert zero")
-    }
-
     /// This element times the divisor's inverse, or refusal 1 where the divisor is zero. The operator `/` panics there.
     #[inline]
     pub fn try_div(self, divisor: Self) -> Result<Self, Refusal> {
         value(|out| togasipe_rijndael_div(self.0, divisor.0, out)).map(Self)
-    }
-
-    /// Interpolation node i, which is the byte i.
-    ///
-    /// # Panics
-    ///
-    /// Panics from 256 up, as the old crate does; [`try_interpolation_node`](Self::try_interpolation_node) refuses.
-    #[inline]
-    pub fn interpolation_node(i: usize) -> Self {
-        Self::try_interpolation_node(i).expect("interpolation node index out of range")
-    }
-
-    /// Interpolation node i, which is the byte i, or refusal 3 from 256 up.
-    #[inline]
-    pub fn try_interpolation_node(i: usize) -> Result<Self, Refusal> {
-        value(|out| togasipe_rijndael_interpolation_node(i, out)).map(Self)
     }
 
     /// The map that multiplies by this element.
@@ -156,36 +105,6 @@ impl Rijndael8b {
     pub fn mul_alpha(self) -> Self {
         Self(togasipe_rijndael_mul_alpha(self.0))
     }
-
-    /// The element at the start of the bytes, or refusal 4 where there are none. What follows is ignored.
-    pub fn read(bytes: &[u8]) -> Result<Self, Refusal> {
-        // SAFETY: pointer and length are those of the list.
-        value(|out| unsafe { togasipe_rijndael_read(bytes.as_ptr(), bytes.len(), out) }).map(Self)
-    }
-
-    /// Writes the element over the first byte and leaves the others alone; refusal 4 where there are none.
-    pub fn write(self, bytes: &mut [u8]) -> Result<(), Refusal> {
-        // SAFETY: pointer and length are those of the list.
-        answered(unsafe { togasipe_rijndael_write(self.0, bytes.as_mut_ptr(), bytes.len()) })
-    }
-}
-
-impl Add for Rijndael8b {
-    type Output = Self;
-
-    #[inline]
-    fn add(self, rhs: Self) -> Self {
-        Self(togasipe_rijndael_add(self.0, rhs.0))
-    }
-}
-
-impl Mul for Rijndael8b {
-    type Output = Self;
-
-    #[inline]
-    fn mul(self, rhs: Self) -> Self {
-        Self(togasipe_rijndael_mul(self.0, rhs.0))
-    }
 }
 
 impl From<BinaryField8> for Rijndael8b {
@@ -196,7 +115,4 @@ impl From<BinaryField8> for Rijndael8b {
     }
 }
 
-ring_operators!(Rijndael8b);
-division!(Rijndael8b);
-shown_as_bits!(Rijndael8b, to_byte);
-byte_streams!(Rijndael8b, 1);
+byte_element!(Rijndael8b, togasipe_rijndael_add, togasipe_rijndael_mul);

@@ -6,12 +6,13 @@
 //! - [`BinaryField8`]: the tower byte, a type of its own.
 //! - [`Poly64`] and [`Poly128`]: the fields modulo x^64 + x^4 + x^3 + x + 1 and x^128 + x^7 + x^2 + x + 1.
 //! - [`mul_slice`], [`invert_slice`] and [`ByteMatrix::apply_slice`]: sweeps over lists of bytes.
-//! - [`fingerprint`]: what two ends compare instead of a list of words.
+//! - [`fingerprint`]: what two ends compare instead of a list of words; [`pack_rows`] makes the words of a map's rows.
 //! - [`clmul`]: the carryless product of words, and what it is made of.
 //!
-//! Every answer comes from the library, sums included; only wrapping bits up and taking them out is done here, and stays
-//! `const`. Where the library refuses, a call answers `Err` of a [`Refusal`], which has the paper's number. Where the old
-//! crate panics, the old name still does, and a name beginning with `try_` answers with the refusal.
+//! Every answer comes from the library, sums included, or is put together of its answers (`exp_u64`, `powers`, sums of
+//! iterators, the tower byte's inverse); only wrapping bits up and taking them out is done here, and stays `const`. Where the
+//! library refuses, a call answers `Err` of a [`Refusal`], which has the number of the C header. Where the old crate panics,
+//! the old name still does, and a name beginning with `try_` answers with the refusal. The package is `no_std`.
 //!
 //! ```
 //! use togasipe::{fingerprint, ByteMatrix, Refusal, Rijndael8b};
@@ -28,10 +29,13 @@
 //! assert_eq!(fingerprint(&[0; 4097], 2), Err(Refusal::TooManyWords));
 //! ```
 
+#![no_std]
 #![warn(missing_docs)]
 
 mod byte;
 pub mod clmul;
+// The whole boundary; not all of it is called here, since Rust's own numbers have some of it.
+#[allow(dead_code)]
 mod ffi;
 mod linearized;
 mod matrix;
@@ -48,10 +52,16 @@ pub use linearized::LinearizedPoly8b;
 pub use matrix::ByteMatrix;
 pub use poly64::Poly64;
 pub use poly128::Poly128;
-pub use print::{MOST_WORDS, fingerprint};
+pub use print::{MOST_WORDS, fingerprint, pack_rows};
 pub use refusal::Refusal;
 pub use sweep::{invert_slice, mul_slice};
 pub use tower::BinaryField8;
+
+/// The version of the library that is linked: major << 16 | minor << 8 | patch, so 0x000200 for 0.2.0.
+#[must_use]
+pub fn version() -> u32 {
+    ffi::togasipe_version()
+}
 
 /// The README's example is tested with the others.
 #[cfg(doctest)]

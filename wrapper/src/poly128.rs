@@ -1,9 +1,9 @@
 //! The field of 128 bits, without its inverses.
 
-use std::ops::{Add, Mul};
+use core::ops::{Add, Mul};
 
 use crate::ffi::*;
-use crate::operators::{byte_streams, ring_operators, shown_as_bits};
+use crate::operators::{byte_streams, ring_methods, ring_operators, shown_as_bits};
 use crate::refusal::{Refusal, answered, value, written};
 
 /// A polynomial over two elements modulo x^128 + x^7 + x^2 + x + 1, as two limbs of 64 bits, the low one first.
@@ -25,10 +25,6 @@ impl Poly128 {
     pub const ZERO: Self = Self([0, 0]);
     /// One.
     pub const ONE: Self = Self([1, 0]);
-    /// One and one, which is zero.
-    pub const TWO: Self = Self::ZERO;
-    /// The negative of one, which is one.
-    pub const NEG_ONE: Self = Self::ONE;
 
     /// The element with these bits.
     #[inline]
@@ -100,7 +96,7 @@ impl Poly128 {
 /// A list of elements as the list of their limbs.
 fn limbs(elements: &[Poly128]) -> &[u64] {
     // SAFETY: an element is two words and nothing else, so that the list is one of twice as many words.
-    unsafe { std::slice::from_raw_parts(elements.as_ptr().cast(), 2 * elements.len()) }
+    unsafe { core::slice::from_raw_parts(elements.as_ptr().cast(), 2 * elements.len()) }
 }
 
 impl Add for Poly128 {
@@ -124,5 +120,6 @@ impl Mul for Poly128 {
 }
 
 ring_operators!(Poly128);
+ring_methods!(Poly128, 7);
 shown_as_bits!(Poly128, to_bits);
 byte_streams!(Poly128, 16);

@@ -1,9 +1,7 @@
 //! The field of 64 bits.
 
-use std::ops::{Add, Mul};
-
 use crate::ffi::*;
-use crate::operators::{byte_streams, division, ring_operators, shown_as_bits};
+use crate::operators::{byte_streams, division, ring_methods, ring_operators, shown_as_bits, sum_and_product};
 use crate::refusal::{Refusal, answered, value};
 
 /// An element of the field of 64 bits: a polynomial over two elements modulo x^64 + x^4 + x^3 + x + 1.
@@ -28,10 +26,8 @@ impl Poly64 {
     pub const ZERO: Self = Self(0);
     /// One.
     pub const ONE: Self = Self(1);
-    /// One and one, which is zero.
-    pub const TWO: Self = Self::ZERO;
-    /// The negative of one, which is one.
-    pub const NEG_ONE: Self = Self::ONE;
+    /// The old crate's generator. (That every nonzero word is a power of it is tested here, and not proved.)
+    pub const GENERATOR: Self = Self(0xc313_d8d1_bfae_2150);
 
     /// The element with these bits. Every word is one.
     #[inline]
@@ -77,6 +73,11 @@ impl Poly64 {
         Self(togasipe_poly_square_64(self.0))
     }
 
+    /// Squared `power_log` times. Only the remainder of `power_log` by 64 matters.
+    pub fn exp_power_of_2(&self, power_log: usize) -> Self {
+        (0..power_log % 64).fold(*self, |power, _| power.square())
+    }
+
     /// The square root, of which every element has exactly one.
     #[inline]
     pub fn sqrt(&self) -> Self {
@@ -99,16 +100,6 @@ impl Poly64 {
     #[inline]
     pub fn try_inverse(&self) -> Option<Self> {
         value(|out| togasipe_try_inverse_64(self.0, out)).ok().map(Self)
-    }
-
-    /// The inverse.
-    ///
-    /// # Panics
-    ///
-    /// Panics for zero, as the old crate does; [`try_inverse`](Self::try_inverse) answers `None`.
-    #[inline]
-    pub fn inverse(&self) -> Self {
-        self.try_inverse().expect("Tried to invert zero")
     }
 
     /// This element times the divisor's inverse, or refusal 1 where the divisor is zero. The operator `/` panics there.
@@ -143,25 +134,9 @@ impl Poly64 {
     }
 }
 
-impl Add for Poly64 {
-    type Output = Self;
-
-    #[inline]
-    fn add(self, rhs: Self) -> Self {
-        Self(togasipe_add_64(self.0, rhs.0))
-    }
-}
-
-impl Mul for Poly64 {
-    type Output = Self;
-
-    #[inline]
-    fn mul(self, rhs: Self) -> Self {
-        Self(togasipe_poly_mul_64(self.0, rhs.0))
-    }
-}
-
+sum_and_product!(Poly64, togasipe_add_64, togasipe_poly_mul_64);
 ring_operators!(Poly64);
+ring_methods!(Poly64, 6);
 division!(Poly64);
 shown_as_bits!(Poly64, to_bits);
 byte_streams!(Poly64, 8);

@@ -1,7 +1,7 @@
 //! The refusals, by their numbers.
 
-use std::error::Error;
-use std::fmt::{self, Display, Formatter};
+use core::error::Error;
+use core::fmt::{self, Display, Formatter};
 
 /// Why a call gave no value. A call that refuses leaves every lent buffer as it was.
 #[derive(Copy, Clone, Debug, PartialEq, Eq, Hash)]
@@ -13,7 +13,7 @@ pub enum Refusal {
     LengthsDiffer = 2,
     /// There are 256 interpolation nodes, numbered from 0.
     BadIndex = 3,
-    /// The bytes end before one whole element does.
+    /// The bytes end before one whole element does, or the words before all rows are packed.
     Short = 4,
     /// A list of 128-bit elements has an odd number of 64-bit limbs.
     OddLimbs = 5,
@@ -49,7 +49,7 @@ impl Display for Refusal {
             Self::NoInverse => "zero has no inverse",
             Self::LengthsDiffer => "the lists' lengths differ",
             Self::BadIndex => "interpolation node index out of range",
-            Self::Short => "the bytes ended before a whole element",
+            Self::Short => "the bytes ended before a whole element, or the words before all rows",
             Self::OddLimbs => "a list of 128-bit elements has an odd number of limbs",
             Self::TooManyWords => "a fingerprint takes at most 4096 words",
         };

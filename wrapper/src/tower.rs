@@ -1,15 +1,16 @@
 //! The tower byte.
 
-use std::ops::{Add, Mul};
-
 use crate::Rijndael8b;
 use crate::ffi::*;
-use crate::operators::{ring_operators, shown_as_bits};
+use crate::operators::byte_element;
+use crate::refusal::{Refusal, answered, value};
 
 /// An element of the tower's byte field, over the generators X0, X1 and X2, where each Xk squared is X(k-1) Xk + 1 and
 /// X(-1) is 1. Bit j is the coefficient of the product of the generators that the bits of j name.
 ///
-/// It is a type of its own: only a change of basis makes a [`Rijndael8b`] of it, or back.
+/// It is a type of its own: only a change of basis makes a [`Rijndael8b`] of it, or back. The library has its sums, products
+/// and changes of basis; inverses, quotients, roots and powers of 2 are taken in the byte field, there and back, since the
+/// change of basis keeps sums and products.
 ///
 /// ```
 /// use togasipe::{BinaryField8, Rijndael8b};
@@ -32,19 +33,6 @@ impl BinaryField8 {
     /// The element whose image is [`Rijndael8b::GENERATOR`].
     pub const GENERATOR: Self = Self(0x13);
 
-    /// The element with these bits. Every byte is one.
-    #[inline]
-    pub const fn from_repr(byte: u8) -> Self {
-        Self(byte)
-    }
-
-    /// The element's bits.
-    #[must_use]
-    #[inline]
-    pub const fn to_repr(self) -> u8 {
-        self.0
-    }
-
     /// The element of one byte.
     #[inline]
     pub const fn from_le_bytes(bytes: [u8; 1]) -> Self {
@@ -56,23 +44,41 @@ impl BinaryField8 {
     pub fn square(&self) -> Self {
         *self * *self
     }
-}
 
-impl Add for BinaryField8 {
-    type Output = Self;
-
+    /// Squared `power_log` times. Only the remainder of `power_log` by 8 matters.
     #[inline]
-    fn add(self, rhs: Self) -> Self {
-        Self(togasipe_tower_add(self.0, rhs.0))
+    pub fn exp_power_of_2(&self, power_log: usize) -> Self {
+        Rijndael8b::from(*self).exp_power_of_2(power_log).into()
     }
-}
 
-impl Mul for BinaryField8 {
-    type Output = Self;
-
+    /// The square root, of which every element has exactly one.
     #[inline]
-    fn mul(self, rhs: Self) -> Self {
-        Self(togasipe_tower_mul(self.0, rhs.0))
+    pub fn sqrt(&self) -> Self {
+        Rijndael8b::from(*self).sqrt().into()
+    }
+
+    /// The inverse, and zero for zero.
+    #[inline]
+    pub fn invert_or_zero(self) -> Self {
+        Rijndael8b::from(self).invert_or_zero().into()
+    }
+
+    /// The inverse, or `None` for zero.
+    #[inline]
+    pub fn try_inverse(&self) -> Option<Self> {
+        Rijndael8b::from(*self).try_inverse().map(Self::from)
+    }
+
+    /// This element times the divisor's inverse, or refusal 1 where the divisor is zero. The operator `/` panics there.
+    #[inline]
+    pub fn try_div(self, divisor: Self) -> Result<Self, Refusal> {
+        Rijndael8b::from(self).try_div(divisor.into()).map(Self::from)
+    }
+
+    /// The product with X2, the tower's topmost generator.
+    #[inline]
+    pub fn mul_alpha(self) -> Self {
+        self * Self(0x10)
     }
 }
 
@@ -84,5 +90,4 @@ impl From<Rijndael8b> for BinaryField8 {
     }
 }
 
-ring_operators!(BinaryField8);
-shown_as_bits!(BinaryField8, to_repr);
+byte_element!(BinaryField8, togasipe_tower_add, togasipe_tower_mul);

@@ -1,10 +1,10 @@
-//! The paper's table of cases, every refusal with what it leaves in lent buffers, and what the old crate's panics became.
+//! The worked cases of docs/SCOPE.md, every refusal with what it leaves in lent buffers, and what the old crate's panics became.
 
 use std::panic::catch_unwind;
 
 use togasipe::{
     BinaryField8, ByteMatrix, LinearizedPoly8b, MOST_WORDS, Poly64, Poly128, Refusal, Rijndael8b, clmul, fingerprint,
-    invert_slice, mul_slice,
+    invert_slice, mul_slice, pack_rows, version,
 };
 
 fn byte(bits: u8) -> Rijndael8b {
@@ -139,6 +139,140 @@ fn fingerprints_of_a_coach() {
     assert_eq!(print(&rows), Ok(0xe830_3866_f254_093c));
 }
 
+/// The same map without the rows that fill its last word, which packing adds.
+#[test]
+fn fingerprints_of_packed_rows() {
+    let mut rows = [0xf0, 0x0f, 0x81, 0x66, 0x00, 0xff, 0x3c, 0xaa, 0x01, 0xc3, 0x18, 0x7e, 0x24];
+    let print = |rows: &[u8]| {
+        let mut words = [0; 2];
+        assert_eq!(pack_rows(rows, &mut words), Ok(2));
+        fingerprint(&words, 0x2a)
+    };
+    assert_eq!(print(&rows), Ok(0xd430_3866_f197_c66a));
+    ByteMatrix::from_quadword(0x8040_2010_0804_0201).apply_slice(&mut rows);
+    assert_eq!(print(&rows), Ok(0xe830_3866_f254_093c));
+}
+
+#[test]
+fn rows_as_words() {
+    let rows: Vec<u8> = (1..=100).collect();
+    for length in 0..=rows.len() {
+        let rows = &rows[..length];
+        for room in 0..=20 {
+            let mut words = vec![0xa5; room];
+            let answer = pack_rows(rows, &mut words);
+            let needed = length.div_ceil(8);
+            let mut expected = vec![0xa5; room];
+            if needed <= room {
+                assert_eq!(answer, Ok(needed));
+                for (word, chunk) in expected.iter_mut().zip(rows.chunks(8)) {
+                    *word = chunk.iter().rev().fold(0, |word, &row| word << 8 | u64::from(row));
+                }
+            } else {
+                assert_eq!(answer, Err(Refusal::Short));
+            }
+            assert_eq!(words, expected);
+        }
+    }
+}
+
+#[test]
+fn the_linked_version_is_the_packages() {
+    let number = version();
+    assert_eq!(format!("{}.{}.{}", number >> 16, number >> 8 & 0xff, number & 0xff), env!("CARGO_PKG_VERSION"));
+}
+
+/// What the tower byte's inverses are is in the tower: its own product and squares are held against them.
+#[test]
+fn tower_inverses() {
+    for bits in 0..=255 {
+        let a = BinaryField8::from_repr(bits);
+        match a.try_inverse() {
+            Some(inverse) => assert_eq!((a * inverse, a.invert_or_zero()), (BinaryField8::ONE, inverse)),
+            None => assert_eq!((bits, a.invert_or_zero()), (0, a)),
+        }
+        assert_eq!(a.sqrt().square(), a);
+        assert_eq!(a.exp_power_of_2(11), a.square().square().square());
+        assert_eq!(a.mul_alpha(), a * BinaryField8::from_repr(0x10));
+        for divisor in (1..=255).map(BinaryField8::from_repr) {
+            assert_eq!(a / divisor * divisor, a);
+        }
+        assert_eq!(a.try_div(BinaryField8::ZERO), Err(Refusal::NoInverse));
+    }
+    assert!(panics(|| BinaryField8::ONE / BinaryField8::ZERO));
+    assert!(panics(|| BinaryField8::ZERO.inverse()));
+    assert!(panics(|| BinaryField8::interpolation_node(256)));
+}
+
+/// What the old crate gives every element, over one element and another of each type.
+macro_rules! methods {
+    ($name:ident, $type:ty, $a:expr, $b:expr) => {
+        #[test]
+        #[allow(clippy::op_ref)]
+        fn $name() {
+            type F = $type;
+            let (a, b): (F, F) = ($a, $b);
+            assert_eq!((F::TWO, F::NEG_ONE, 8 * F::NUM_BYTES), (F::ZERO, F::ONE, F::bits()));
+            assert_eq!(1 << F::LOG_BITS, F::bits());
+            assert_eq!((F::from_bool(true), F::from_bool(false)), (F::ONE, F::ZERO));
+            assert!(F::ZERO.is_zero() && F::ONE.is_one() && !a.is_zero() && !a.is_one());
+            assert_eq!((a.double(), a.xor(&b), a.bool_check()), (a + a, a + b, a * (a - F::ONE)));
+            assert_eq!((a.mul_2exp_u64(0), a.mul_2exp_u64(1), a.mul_2exp_u64(u64::MAX)), (a, F::ZERO, F::ZERO));
+
+            let powers: Vec<F> = a.powers().take(70).collect();
+            let mut power = F::ONE;
+            for (k, &listed) in powers.iter().enumerate() {
+                assert_eq!((listed, a.exp_u64(k as u64)), (power, power));
+                power *= a;
+            }
+            assert_eq!(F::ZERO.exp_u64(0), F::ONE);
+            assert_eq!(a.exp_u64(u64::MAX) * a, (0..64).fold(a, |power, _| power.square()));
+
+            assert_eq!((&a + &b, &a + b), (a + b, a + b));
+            assert_eq!((&a - &b, &a - b), (a - b, a - b));
+            assert_eq!((&a * &b, &a * b), (a * b, a * b));
+            let mut x = a;
+            x += b;
+            x *= b;
+            x -= a;
+            assert_eq!(x, (a + b) * b - a);
+            assert_eq!([a, b, a].iter().sum::<F>(), b);
+            assert_eq!([a, b, a].iter().product::<F>(), a * b * a);
+        }
+    };
+}
+
+methods!(methods_of_bytes, Rijndael8b, byte(0x57), byte(0x83));
+methods!(methods_of_tower_bytes, BinaryField8, BinaryField8::from_repr(0x57), BinaryField8::from_repr(0x83));
+methods!(methods_of_words, Poly64, Poly64::new(0x0123_4567_89ab_cdef), Poly64::new(0xfedc_ba98_7654_3210));
+methods!(methods_of_wides, Poly128, Poly128::new(u128::MAX / 7), Poly128::new(u128::MAX / 11));
+
+#[test]
+#[allow(clippy::op_ref)]
+fn division_over_references() {
+    let (a, b) = (byte(0x57), byte(0x83));
+    let mut x = a;
+    x /= b;
+    assert_eq!((&a / &b, &a / b, x), (a / b, a / b, a / b));
+}
+
+/// Its powers are all nonzero words: none of the largest proper divisors of 2^64 - 1 brings it to one.
+#[test]
+fn generator_of_64_bits() {
+    let primes = [3, 5, 17, 257, 641, 65537, 6_700_417];
+    assert_eq!(primes.iter().product::<u64>(), u64::MAX);
+    assert!(Poly64::GENERATOR.exp_u64(u64::MAX).is_one());
+    assert!(primes.iter().all(|prime| !Poly64::GENERATOR.exp_u64(u64::MAX / prime).is_one()));
+    assert_eq!(Poly64::GENERATOR.exp_power_of_2(70), Poly64::GENERATOR.exp_u64(64));
+    assert_eq!(Poly64::GENERATOR.exp_power_of_2(64), Poly64::GENERATOR);
+}
+
+#[test]
+fn sums_of_products_of_bytes() {
+    let (a, b) = ([byte(0x57), byte(0x57)], [byte(0x83), byte(0x13)]);
+    assert_eq!(Rijndael8b::dot_product(&a, &b), byte(0xc1 ^ 0xfe));
+}
+
 #[test]
 fn interpolation_nodes() {
     assert_eq!(Rijndael8b::try_interpolation_node(0xff), Ok(byte(0xff)));
@@ -199,6 +333,7 @@ macro_rules! reader_and_writer {
 }
 
 reader_and_writer!(bytes_in_buffers, Rijndael8b);
+reader_and_writer!(tower_bytes_in_buffers, BinaryField8);
 reader_and_writer!(words_in_buffers, Poly64);
 reader_and_writer!(wides_in_buffers, Poly128);
 

@@ -55,6 +55,7 @@ fn bytes() {
     same([()], |()| ours::byte_constants(), |()| theirs::byte_constants());
     same(every_pair(), ours::byte_sums, theirs::byte_sums);
     same(every_pair(), ours::byte_product, theirs::byte_product);
+    same(every_pair(), ours::byte_methods, theirs::byte_methods);
     same(every_pair().filter(|&(_, b)| b != 0), ours::byte_quotient, theirs::byte_quotient);
     same(all_bytes(), ours::byte_powers, theirs::byte_powers);
     same(all_bytes(), ours::byte_inverse, theirs::byte_inverse);
@@ -131,12 +132,23 @@ fn sweeps() {
 fn tower_bytes() {
     same(every_pair(), ours::tower_arithmetic, theirs::tower_arithmetic);
     same(all_bytes(), ours::tower_changes, theirs::tower_changes);
+    same([()], |()| ours::tower_constants(), |()| theirs::tower_constants());
+    for power_log in (0..=16).chain([usize::MAX, 1000]) {
+        same(all_bytes().map(|a| (a, power_log)), ours::tower_powers, theirs::tower_powers);
+    }
+    same(all_bytes(), ours::tower_inverse, theirs::tower_inverse);
+    same(every_pair().filter(|&(_, b)| b != 0), ours::tower_quotient, theirs::tower_quotient);
+    same(0..256, ours::tower_node, theirs::tower_node);
 }
 
 #[test]
 fn words_of_64_bits() {
     same(words_paired("sum", RANDOM), ours::word_sums, theirs::word_sums);
     same(words_paired("product", RANDOM), ours::word_product, theirs::word_product);
+    same([()], |()| ours::word_constants(), |()| theirs::word_constants());
+    for power_log in [0, 1, 2, 3, 31, 63, 64, 65, 129] {
+        same(words("power", 1000).map(|a| (a, power_log)), ours::word_power, theirs::word_power);
+    }
     same(words("square", RANDOM), ours::word_square, theirs::word_square);
     same(words("root", RANDOM), ours::word_root, theirs::word_root);
     same(words("inverse", 100_000), ours::word_inverse, theirs::word_inverse);
@@ -209,6 +221,8 @@ fn where_the_given_rust_panics() {
     both_panic(all_bytes().map(|a| (a, 0)), ours::byte_quotient, theirs::byte_quotient);
     both_panic([0], ours::byte_inverse_of_any, theirs::byte_inverse_of_any);
     both_panic([256, 257, usize::MAX], ours::byte_node, theirs::byte_node);
+    both_panic(all_bytes().map(|a| (a, 0)), ours::tower_quotient, theirs::tower_quotient);
+    both_panic([256, 257, usize::MAX], ours::tower_node, theirs::tower_node);
     both_panic([&[][..]], ours::byte_read, theirs::byte_read);
     both_panic([0], ours::word_inverse_of_any, theirs::word_inverse_of_any);
     both_panic([(0, 0), (1, 0)], ours::word_quotient, theirs::word_quotient);

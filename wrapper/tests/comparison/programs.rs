@@ -29,6 +29,14 @@ macro_rules! program {
                 [(byte(a) * byte(b)).to_byte(), product.to_byte()]
             }
 
+            pub fn byte_methods((a, b): (u8, u8)) -> [u8; 7] {
+                type F = Rijndael8b;
+                let (a, b) = (byte(a), byte(b));
+                let products = F::dot_product(&[a, b, a], &[b, b, a]);
+                [F::from_bool(a == b), a.double(), a.xor(&b), a.mul_2exp_u64(0), a.mul_2exp_u64(3), a.bool_check(), products]
+                    .map(F::to_byte)
+            }
+
             pub fn byte_quotient((a, b): (u8, u8)) -> u8 {
                 (byte(a) / byte(b)).to_byte()
             }
@@ -112,6 +120,28 @@ macro_rules! program {
                 [a + b, a - b, a * b, a.square()].map(BinaryField8::to_repr)
             }
 
+            pub fn tower_powers((a, power_log): (u8, usize)) -> [u8; 4] {
+                let a = BinaryField8::from_repr(a);
+                [a.exp_power_of_2(power_log), a.try_sqrt().unwrap(), a.mul_alpha(), a.bool_check()].map(BinaryField8::to_repr)
+            }
+
+            pub fn tower_inverse(a: u8) -> Option<u8> {
+                BinaryField8::from_repr(a).try_inverse().map(BinaryField8::to_repr)
+            }
+
+            pub fn tower_quotient((a, b): (u8, u8)) -> u8 {
+                (BinaryField8::from_repr(a) / BinaryField8::from_repr(b)).to_repr()
+            }
+
+            pub fn tower_node(i: usize) -> u8 {
+                BinaryField8::interpolation_node(i).to_repr()
+            }
+
+            pub fn tower_constants() -> [u8; 5] {
+                type F = BinaryField8;
+                [F::ZERO, F::ONE, F::TWO, F::NEG_ONE, F::GENERATOR].map(F::to_repr)
+            }
+
             pub fn tower_changes(a: u8) -> [u8; 2] {
                 [
                     Rijndael8b::from(BinaryField8::from_repr(a)).to_byte(),
@@ -129,6 +159,15 @@ macro_rules! program {
 
             pub fn word_product((a, b): (u64, u64)) -> u64 {
                 (Poly64::new(a) * Poly64::new(b)).to_bits()
+            }
+
+            pub fn word_constants() -> [u64; 5] {
+                type F = Poly64;
+                [F::ZERO, F::ONE, F::TWO, F::NEG_ONE, F::GENERATOR].map(F::to_bits)
+            }
+
+            pub fn word_power((a, power_log): (u64, usize)) -> u64 {
+                Poly64::new(a).exp_power_of_2(power_log).to_bits()
             }
 
             pub fn word_square(a: u64) -> u64 {
