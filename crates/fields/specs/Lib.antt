@@ -1,1 +1,2 @@
 pub mod Moduli
+pub mod Fields

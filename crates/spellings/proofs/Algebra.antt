@@ -7,6 +7,7 @@ use Rattle.gf2.specs.Bits.{poly}
 use Rattle.spellings.specs.Maps.{Linear, after}
 use Rattle.spellings.specs.Quadword.{find_quadword}
 use Rattle.spellings.specs.Kinds.{Kind, Value, Valid, meaning, find, compose}
+use Rattle.spellings.specs.Theorem.{Composition}
 use Rattle.gf2.proofs.Shift.{coef-lt, coef-xor, xor_bits}
 use Rattle.gf2.proofs.Sum.{xsum_below, xsum-xor}
 use Rattle.spellings.proofs.Spelling.{find-same, find-meaning}
@@ -50,6 +51,10 @@ module _ (k : Kind) where
       find-same (kind k) _ _ (after_linear (means _ (compose_valid C (kind k) u v hu hv)) (means w hw))
       (after_linear (means u hu) (means _ (compose_valid C (kind k) v w hv hw)))
       (λ a h. compose-same C (kind k) u v hu hv _ ((means w hw).below a h) ∙ sym (ap (meaning k u) (compose-same C (kind k) v w hv hw a h)))
+
+pub composition : (k : Kind) → Composition k
+composition k =
+    record { found = compose-find k; identity_l = compose_identity_l k; identity_r = compose_identity_r k; assoc = compose_assoc k }
 
 -- bit k of the quadword of f
 abbrev bit : (ℕ → ℕ) → ℕ → ℕ

@@ -27,6 +27,14 @@ pub record ThreeSpellings : Type 0 where
   -- composed, the second is applied first
   pub composed : (k : Kind) (v w : Value k) → Valid k v → Valid k w → Same 8 (meaning k (compose k v w)) (λ a. meaning k v (meaning k w a))
 
+-- composing, of any one kind: found values compose as their maps do, the identity changes nothing, and brackets do not matter
+-- (`composition` of proofs/Algebra.antt proves it)
+pub record Composition (k : Kind) : Type 0 where
+  pub found : (f g : ℕ → ℕ) → Linear 8 f → Linear 8 g → compose k (find k f) (find k g) ≡ find k (λ a. f (g a))
+  pub identity_l : (v : Value k) → Valid k v → compose k (find k (λ a. a)) v ≡ v
+  pub identity_r : (v : Value k) → Valid k v → compose k v (find k (λ a. a)) ≡ v
+  pub assoc : (u v w : Value k) → Valid k u → Valid k v → Valid k w → compose k (compose k u v) w ≡ compose k u (compose k v w)
+
 -- what this says of a conversion, of code as of mathematics, that answers w to v: w is the one spelling of the map that v
 -- means, and turned back it is v
 pub record Converts (k l : Kind) (v : Value k) (w : Value l) : Type 0 where
