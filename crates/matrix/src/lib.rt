@@ -5,6 +5,7 @@ ghost use Rattle.std.specs.Prelude.{◌≡◌, length, get_or};
 ghost use Rattle.gf2.specs.Bits.{tab};
 ghost use Rattle.spellings.specs.Quadword.{image};
 ghost use Rattle.spellings.specs.Kinds.{Kind, find, turn, compose as composed};
+ghost use Rattle.spellings.specs.Theorem.{Converts};
 
 // Byte k is 1 << (7 - k). Read as a matrix it is the identity; as a multiplier it collects the lowest bit of every byte
 // into the topmost byte, byte 7 lowest, with no two of them at one place.
@@ -117,4 +118,30 @@ fn identity() -> ByteMatrix
     ensures { result.0 ≡ find Kind.Quadword (λ a. a) }
 {
     ByteMatrix::IDENTITY
+}
+
+// What the theorem of the three spellings says of the two conversions, for every matrix and every eight bytes. Nothing calls
+// these: they are there for their contracts.
+fn images_converts(map: ByteMatrix) -> [u8; 8]
+    ensures { Converts Kind.Quadword Kind.Images map.0 result }
+{
+    map.images()
+}
+
+fn from_images_converts(images: [u8; 8]) -> ByteMatrix
+    ensures { Converts Kind.Images Kind.Quadword images result.0 }
+{
+    ByteMatrix::from_images(images)
+}
+
+fn images_and_back(map: ByteMatrix) -> ByteMatrix
+    ensures { result ≡ map }
+{
+    ByteMatrix::from_images(map.images())
+}
+
+fn from_images_and_back(images: [u8; 8]) -> [u8; 8]
+    ensures { result ≡ images }
+{
+    ByteMatrix::from_images(images).images()
 }
