@@ -1,5 +1,5 @@
 -- Elements and bytes undo one another; a value of a type with one field is made of that field.
-use mathlib.Core.Path.{◌≡◌, refl, ap}
+use mathlib.Core.Path.{◌≡◌, refl, sym, ap, ◌∙◌}
 use mathlib.Core.List.{List, [], ◌∷◌}
 use Prim.Native.Nat.{ℕ}
 use lib.ListN.{get_or, get_or-map}
@@ -27,3 +27,10 @@ matrix q = record { 0 = q }
 
 abbrev pub poly : List Rijndael8b → LinearizedPoly8b
 poly c = record { 0 = c }
+
+-- a polynomial with given coefficients, and two with the same ones
+pub spelled : (p : LinearizedPoly8b) {l : List ℕ} → p.0 ≡ elements l → bytes p.0 ≡ l
+spelled p {l} e = ap bytes e ∙ bytes-elements l
+
+pub poly_same : {p q : LinearizedPoly8b} → bytes p.0 ≡ bytes q.0 → p ≡ q
+poly_same {p} {q} e = ap poly (sym (elements-bytes p.0) ∙ ap elements e ∙ elements-bytes q.0)

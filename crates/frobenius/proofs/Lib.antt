@@ -1,4 +1,5 @@
 pub mod Elements
+pub mod Owned
 pub mod Frobenius
 pub mod Unique
 pub mod Conversions

@@ -10,6 +10,8 @@ ghost use Rattle.spellings.specs.Kinds.{Kind, meaning, find, turn};
 ghost use Rattle.rijndael.specs.Element.{element};
 ghost use Rattle.frobenius.specs.Elements.{bytes, elements};
 
+mod converting;
+
 use matrix::ByteMatrix;
 use rijndael::Rijndael8b;
 
