@@ -144,6 +144,19 @@ fn one() -> BinaryField8
     BinaryField8::ONE
 }
 
+// The two changes of basis undo one another, for every byte. Nothing calls these: they are there for their contracts.
+fn to_rijndael_and_back(x: BinaryField8) -> BinaryField8
+    ensures { result ≡ x }
+{
+    BinaryField8::from_rijndael(x.to_rijndael())
+}
+
+fn from_rijndael_and_back(x: Rijndael8b) -> Rijndael8b
+    ensures { result ≡ x }
+{
+    BinaryField8::from_rijndael(x).to_rijndael()
+}
+
 // Where the eight bits of a tower byte go: entry j is the image of the product of the generators that the bits of j name.
 // The lowest set bit of j names the generator split off, and the image of the rest is there already.
 pub fn tower_images() -> [u8; 8]
