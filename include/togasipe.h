@@ -88,11 +88,14 @@ uint32_t togasipe_version(void);
 
 /* ---- Answers --------------------------------------------------------------------------------- */
 
-/* Marks a call whose answer must be looked at, for compilers that can warn. */
+/* Marks a call whose answer must be looked at, for compilers that can warn. Defined as nothing before
+ * this header is read (-DTOGASIPE_MUST_CHECK=), it marks nothing. */
+#ifndef TOGASIPE_MUST_CHECK
 #if defined(__GNUC__) || defined(__clang__)
 #define TOGASIPE_MUST_CHECK __attribute__((warn_unused_result))
 #else
 #define TOGASIPE_MUST_CHECK
+#endif
 #endif
 
 /* Accepted. */
