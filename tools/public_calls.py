@@ -4,8 +4,9 @@
     python3 tools/public_calls.py            the gate's check, from the repository's root
     python3 tools/public_calls.py --list     one row a call: crate, call, its Reads module
 
-A call is at fault where it
-  - has a `requires` (it asks its caller), or has no `ensures` (it states nothing);
+A call is a `pub fn`, or a method of a trait's block for a type (an operator, `From`), which states by the block's ghost member
+`.._gives` or `.._of`; programs have none. It is at fault where it
+  - has a `requires` or a member `can_..` (it asks its caller), or has no `ensures` or member that says (it states nothing);
   - has no row in docs/PROMISES.md under its crate's heading, or one without two must-fail edits that are there (`label` is an edit of
     the crate itself, `crate/label` one of a crate below, whose refused code the call would answer with);
   - has no theorem in its crate's proofs/Unique.antt, said of its generated `Reads`, that two answers meeting its
@@ -18,6 +19,9 @@ import sys
 
 HEAD = re.compile(r'pub\s+(?:extern\s+"C"\s+)?fn\s+(?P<name>\w+)')
 IMPL = re.compile(r'\bimpl\s+(?P<type>\w+)\s*\{')
+# a trait's block whose ghost members say what the calls answer, as `impl Add for Rijndael8b` or `impl From<Refusal> for Shown`
+TRAIT = re.compile(r'\bimpl\s+(?P<trait>\w+)(?:<(?P<of>\w+)>)?\s+for\s+(?P<type>\w+)\s*\{')
+METHOD = re.compile(r'\bfn\s+(?P<name>\w+)')
 CLAUSE = re.compile(r'\s*(?:->\s*[^{]*?)?\s*\b(?P<kind>ensures|requires|ghost)\b[^{]*')
 ROW = re.compile(r'^\|\s*`(?P<call>[\w:]+)`\s*\|(?P<rest>.*)\|\s*$')
 
@@ -59,6 +63,17 @@ def calls_of(path, src):
             at = past_balanced(text, text.index('{', clause.end() - 1), '{', '}')
         name = head.group('name')
         yield '::'.join(owner + [name]), '.'.join(module + owner + [name]), counts['ensures'], counts['requires']
+    if (src / 'main.rt').exists():
+        return
+    for block in TRAIT.finditer(text):
+        if block['trait'] == 'Error':
+            continue
+        body = text[block.end():past_balanced(text, block.end() - 1, '{', '}')]
+        says = len(re.findall(r'\bghost\s+\w+_(?:gives|of)\s*=', body))
+        asks = len(re.findall(r'\brequires\b|\bghost\s+can_\w+\s*=', body))
+        for method in METHOD.finditer(body):
+            name = f"{block['type'][0].upper()}{block['type'][1:]}{block['trait']}{block['of'] or ''}"
+            yield f"{block['type']}::{method['name']}", '.'.join(module + [name, method['name']]), says, asks
 
 
 def edits_of(crates):

@@ -154,7 +154,7 @@ def versions():
 
 def limits():
     """Where the fingerprint's limit is said otherwise than in its crate."""
-    limit = one(r'(?m)^const LIMIT: usize = (\d+);$', 'crates/fingerprint/src/lib.rt')
+    limit = one(r'(?m)^pub const LIMIT: usize = (\d+);$', 'crates/fingerprint/src/lib.rt')
     for path, pattern in ((HEADER, r'(?m)^#define TOGASIPE_FINGERPRINT_LIMIT (\d+)$'),
                           ('wrapper/src/print.rs', r'(?m)^pub const MOST_WORDS: usize = (\d+);$')):
         if one(pattern, path) != limit:

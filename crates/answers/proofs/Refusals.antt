@@ -1,8 +1,8 @@
 -- A refusal by a test is given exactly where the test holds, and where it fails the call accepts; of two, the first comes first.
-use Rattle.std.proofs.Common.{◌≡◌, refl, Bool, true, false, not, eqb, leb, ltb, sym, ap, true≢false, ◌↔◌, ◌≢◌, ℕ, ◌≤◌, ◌<◌, eqb-true, eq-eqb, ne_eqb, leb-true, leb-false, le-leb, ltb-true, ltb-false, lt-ltb, le-ltb}
+use Rattle.std.proofs.Common.{◌≡◌, refl, Bool, true, false, not, eqb, leb, ltb, sym, ap, true≢false, ◌↔◌, ◌≢◌, ℕ, ◌≤◌, ◌<◌, eqb-true, eq-eqb, ne_eqb, leb-true, leb-false, le-leb, ltb-true, ltb-false, lt-ltb, le-ltb, Ok, Err}
 use Rattle.std.proofs.lemmas.Bool.{false≢true}
 use borrow.Author.Tests.{eqb-false, lt-leb, not-true, not-false}
-use Rattle.answers.specs.Answer.{Answer, Value, Refused, number, refusal, refuse_if, mapped, Exactly, Accepts}
+use Rattle.answers.specs.Answer.{Answer, number, refusal, refuse_if, mapped, Exactly, Accepts}
 use Rattle.answers.specs.declared.Refusal.{Refusal}
 use Rattle.answers.proofs.Answer.{refusal_not_0}
 
@@ -38,8 +38,8 @@ module _ {A : Type 0} {P : Type 0} where
   refuses_first true why a d other = (λ e. d.0 refl, λ p. refl)
   refuses_first false why a d other = (λ e. absurd (other e), λ p. absurd (false≢true (d.1 p)))
 
-  pub refuses : (t : Bool) (why : Refusal) (v : A) → (t ≡ true) ↔ P → Exactly why P (refuse_if t why (Value v))
-  refuses t why v d = refuses_first t why (Value v) d (λ e. refusal_not_0 why (sym e))
+  pub refuses : (t : Bool) (why : Refusal) (v : A) → (t ≡ true) ↔ P → Exactly why P (refuse_if t why (Ok v))
+  refuses t why v d = refuses_first t why (Ok v) d (λ e. refusal_not_0 why (sym e))
 
   -- a later one: where the first test fails
   pub refuses_then : {Q : Type 0} (t : Bool) (why why' : Refusal) (a : Answer A) → (t ≡ true) ↔ P → refusal why ≢ refusal why' → Exactly why' Q a
@@ -51,7 +51,7 @@ module _ {A : Type 0} {P : Type 0} where
 
 module _ {A : Type 0} {P : Type 0} where
   -- where the only test fails, or the last of several
-  pub accepts_where : (t : Bool) (why : Refusal) (v : A) → (t ≡ false) ↔ P → Accepts P v (refuse_if t why (Value v))
+  pub accepts_where : (t : Bool) (why : Refusal) (v : A) → (t ≡ false) ↔ P → Accepts P v (refuse_if t why (Ok v))
   accepts_where true why v d = ((λ e. absurd (refusal_not_0 why e), λ p. absurd (true≢false (d.1 p))), λ p. absurd (true≢false (d.1 p)))
   accepts_where false why v d = ((λ e. d.0 refl, λ p. refl), λ p. refl)
 
@@ -68,11 +68,11 @@ module _ {A : Type 0} where
   accepts t why a e = ap (λ (b : Bool). refuse_if b why a) e
 
   -- an answer with a value comes from a test that fails
-  pub accepted : (t : Bool) (why : Refusal) (a : Answer A) {v : A} → refuse_if t why a ≡ Value v → (t ≡ false) × (a ≡ Value v)
+  pub accepted : (t : Bool) (why : Refusal) (a : Answer A) {v : A} → refuse_if t why a ≡ Ok v → (t ≡ false) × (a ≡ Ok v)
   accepted true why a {v} e = absurd (refusal_not_0 why (ap number e))
   accepted false why a e = (refl, e)
 
 -- a value changed is refused where it was before
 pub refuses_mapped : {A B P : Type 0} (f : A → B) (a : Answer A) (why : Refusal) → Exactly why P a → Exactly why P (mapped f a)
-refuses_mapped f (Value v) why e = e
-refuses_mapped f (Refused w) why e = e
+refuses_mapped f (Ok v) why e = e
+refuses_mapped f (Err w) why e = e

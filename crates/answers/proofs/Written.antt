@@ -1,9 +1,8 @@
 -- Lent bytes after a number was written into the first of them; and what readers and writers answer.
-use Rattle.std.proofs.Common.{◌≡◌, ◌∙◌, sym, ap, ap₂, zero-add, arith, lt-ltb, le-ltb, take-append-drop, drop-drop, length-take-le, Bool, ltb, length, take, drop, List, ◌++◌, ℕ, ◌+◌, ◌*◌, ◌^◌, ◌≤◌, ◌<◌, mod-eq_of_lt, le_of_eq, take_all, take_at, drop_at}
+use Rattle.std.proofs.Common.{◌≡◌, ◌∙◌, sym, ap, ap₂, zero-add, arith, lt-ltb, le-ltb, take-append-drop, drop-drop, length-take-le, Bool, ltb, length, take, drop, List, ◌++◌, ℕ, ◌+◌, ◌*◌, ◌^◌, ◌≤◌, ◌<◌, mod-eq_of_lt, le_of_eq, take_all, take_at, drop_at, Ok}
 use Rattle.std.proofs.Math.Decide.{dec_le}
 use Rattle.std.proofs.Math.Seq.{paste, drop-append-add, length_front}
 use Rattle.gf2.specs.Bits.{pick}
-use Rattle.answers.specs.Answer.{Value}
 use Rattle.answers.specs.Lent.{word_of, bytes_of, read_of, written, Bytes, Lent}
 use Rattle.answers.specs.declared.Refusal.TheVariants.{Short}
 use Rattle.answers.proofs.Lent.{word_of-bytes, bytes_of-word, length-bytes_of}
@@ -63,10 +62,10 @@ written-word k d b = go (dec_le k (length d))
     go (no n) = written_short k d (word_of k d) (omega arith)
 
 -- what was written, read again
-pub read_written : (k : ℕ) (d : List ℕ) (v : ℕ) → k ≤ length d → v < 2 ^ (8 * k) → read_of k (written k d v) ≡ Value v
+pub read_written : (k : ℕ) (d : List ℕ) (v : ℕ) → k ≤ length d → v < 2 ^ (8 * k) → read_of k (written k d v) ≡ Ok v
 read_written k d v h l =
-    accepts (ltb (length (written k d v)) k) Short (Value (word_of k (written k d v))) (le-ltb (length (written k d v)) k (rw length_written h))
-    ∙ ap Value (word_of-written k d v h l)
+    accepts (ltb (length (written k d v)) k) Short (Ok (word_of k (written k d v))) (le-ltb (length (written k d v)) k (rw length_written h))
+    ∙ ap Ok (word_of-written k d v h l)
 
 -- ---- all of it, at any number of bytes
 

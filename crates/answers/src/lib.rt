@@ -1,48 +1,21 @@
-// What a call answers that may refuse: its value, or one of the numbered refusals. One vocabulary for all crates above.
+// Why a call refuses: one vocabulary for all crates above. A call that may refuse answers its value, or one of these.
 #![tactic(auto)]
 
 ghost use Rattle.std.specs.Prelude.{◌≡◌};
-ghost use Rattle.answers.specs.Answer.{refusal, number, outcome};
+ghost use Rattle.answers.specs.Answer.{refusal, number as number_of};
 
-use words::Limbs;
+use std::error::Error;
+use std::fmt;
 
-// Why a call refuses.
-#[derive(Clone, Copy)]
+// Why a call refuses. The numbers are those that cross the C interface.
+#[derive(Clone, Copy, Debug, PartialEq, Eq)]
 pub enum Refusal {
-    NoInverse,
-    LengthsDiffer,
-    BadIndex,
-    Short,
-    OddLimbs,
-    TooManyWords,
-}
-
-// A byte, or a refusal.
-#[derive(Clone, Copy)]
-pub enum Byte {
-    Value(u8),
-    Refused(Refusal),
-}
-
-// A word, or a refusal.
-#[derive(Clone, Copy)]
-pub enum Word {
-    Value(u64),
-    Refused(Refusal),
-}
-
-// Two limbs, or a refusal.
-#[derive(Clone, Copy)]
-pub enum Wide {
-    Value(Limbs),
-    Refused(Refusal),
-}
-
-// Done, or a refusal.
-#[derive(Clone, Copy)]
-pub enum Outcome {
-    Done,
-    Refused(Refusal),
+    NoInverse = 1,
+    LengthsDiffer = 2,
+    BadIndex = 3,
+    Short = 4,
+    OddLimbs = 5,
+    TooManyWords = 6,
 }
 
 impl Refusal {
@@ -50,25 +23,25 @@ impl Refusal {
     pub fn number(self) -> u32
         ensures { result ≡ refusal self }
     {
-        match self {
-            Refusal::NoInverse => 1,
-            Refusal::LengthsDiffer => 2,
-            Refusal::BadIndex => 3,
-            Refusal::Short => 4,
-            Refusal::OddLimbs => 5,
-            Refusal::TooManyWords => 6,
-        }
+        self as u32
     }
 }
 
-impl Outcome {
-    // The number of an answer with no value: 0 where the call was done.
-    pub fn number(self) -> u32
-        ensures { result ≡ number (outcome self) }
-    {
-        match self {
-            Outcome::Done => 0,
-            Outcome::Refused(why) => why.number(),
-        }
+// "refusal 4"
+impl fmt::Display for Refusal {
+    fn fmt<W: fmt::Write>(&self, f: &mut fmt::Formatter<W>) -> fmt::Result {
+        write!(f, "refusal {}", self.number())
+    }
+}
+
+impl Error for Refusal {}
+
+// The number of an answer with no value: 0 where the call was done.
+pub fn number(answer: Result<(), Refusal>) -> u32
+    ensures { result ≡ number_of answer }
+{
+    match answer {
+        Ok(()) => 0,
+        Err(why) => why.number(),
     }
 }

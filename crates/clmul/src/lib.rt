@@ -18,6 +18,7 @@ const NIBBLE_3: u64 = NIBBLE_0 << 3;
 // at places r modulo 4, and class r by class s, as integers, lands in class r + s. There place 4k + r + s counts at most
 // k + 1 pairs: below 16 for k < 15, so that the count fits the place and the three above it and its lowest bit is the
 // coefficient; for k = 15 what does not fit falls out of the word.
+// Kept: the classes and the sums one by one: each of the four pairs other classes, and a table of pairs would be longer.
 pub fn bmul64(x: u64, y: u64) -> u64
     ensures { result ≡ cmul x y % 2 ^ 64 }
 {

@@ -1,11 +1,7 @@
 -- One answer only: any two answers that meet a call's contract, as the checker reads it, are equal.
 use mathlib.Core.Path.{◌≡◌, sym, ◌∙◌}
-use Rattle.coach.proofs.parse_hex.Reads as parse-hex
 use Rattle.coach.proofs.pack_rows.Reads as pack-rows
 use Rattle.coach.proofs.draw.Reads as draw
-
-pub parse_hex_unique : (κs : _) (a : _) (r r' : _) (s s' : _) → parse-hex.Post κs a r s → parse-hex.Post κs a r' s' → r ≡ r'
-parse_hex_unique κs a r r' s s' p q = p ∙ sym q
 
 pub pack_rows_unique : (κs : _) (a : _) (r r' : _) (s s' : _)
     → pack-rows.Post κs a r s → pack-rows.Post κs a r' s' → (r ≡ r') × (s.1.0.now ≡ s'.1.0.now)

@@ -1,9 +1,9 @@
 -- A coach's map, one byte a row: eight rows a word, and the picture of a row.
-use Rattle.std.specs.Prelude.{List, ℕ, ◌+◌, ◌*◌, ◌/◌, ◌^◌, eqb, leb, ltb, length, get_or}
+use Rattle.std.specs.Prelude.{List, ℕ, ◌+◌, ◌*◌, ◌/◌, ◌^◌, eqb, leb, ltb, length, get_or, Ok}
 use Rattle.gf2.specs.Poly.{coef, xsum}
 use Rattle.gf2.specs.Bits.{pick, tab}
-use Rattle.coach.specs.declared.Packed.{Packed}
-use Rattle.coach.specs.declared.Packed.TheVariants.{Words, Short}
+use Rattle.answers.specs.Answer.{Answer, refuse_if}
+use Rattle.answers.specs.declared.Refusal.TheVariants.{Short}
 
 -- how many words n rows take
 abbrev pub words_for_rows : ℕ → ℕ
@@ -14,13 +14,8 @@ unfoldable pub row_word_of : List ℕ → ℕ → ℕ
 row_word_of rows at = xsum 8 (λ k. get_or rows (at + k) 0 * 2 ^ (8 * k))
 
 -- the number of words written, or refusal 4 where the words lent are too few
-abbrev pub packed_answer : List ℕ → List ℕ → Packed
-packed_answer rows words = pick (leb (words_for_rows (length rows)) (length words)) (Words (words_for_rows (length rows))) Short
-
--- document 01's number of an answer
-abbrev pub refusal : Packed → ℕ
-refusal (Words n) = 0
-refusal Short = 4
+abbrev pub packed_answer : List ℕ → List ℕ → Answer ℕ
+packed_answer rows words = refuse_if (ltb (length words) (words_for_rows (length rows))) Short (Ok (words_for_rows (length rows)))
 
 -- the words afterwards: those of the rows, then what was there; where they are too few, all as they were
 abbrev pub packed : List ℕ → List ℕ → List ℕ

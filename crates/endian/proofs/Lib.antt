@@ -1,5 +1,5 @@
-pub mod Bytes
-pub mod Place
-pub mod RoundTrip
-pub mod Refusal
+pub mod Words
+pub mod Limbs
+pub mod Readers
+pub mod Refusals
 pub mod Unique

@@ -1,6 +1,6 @@
 -- One answer only: any two answers that meet a call's contract, as the checker reads it, are equal, and so are the lent
 -- bytes afterwards.
-use mathlib.Core.Path.{◌≡◌, sym, ◌∙◌}
+use Rattle.std.proofs.Common.{◌≡◌, sym, ◌∙◌}
 use Rattle.endian.proofs.read_64.Reads as read-64
 use Rattle.endian.proofs.write_64.Reads as write-64
 use Rattle.endian.proofs.read_128.Reads as read-128

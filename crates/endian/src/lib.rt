@@ -2,107 +2,49 @@
 // bytes of its element only.
 #![tactic(auto)]
 
-ghost use Rattle.std.specs.Prelude.{◌≡◌, ◌+◌, ◌≤◌, length, drop};
-ghost use Rattle.std.proofs.Math.Seq.{paste};
-ghost use Rattle.words.specs.Limbs.{value};
-ghost use Rattle.endian.specs.Bytes.{word_of, bytes_of, written};
-ghost use Rattle.endian.specs.Answers.{read64, read128, room_for};
+ghost use Rattle.std.specs.Prelude.{◌≡◌};
+ghost use Rattle.words.specs.Limbs.{value, limbs};
+ghost use Rattle.answers.specs.Answer.{mapped};
+ghost use Rattle.answers.specs.Lent.{read_of, room_for, written};
 
+use answers::Refusal;
 use words::Limbs;
 
-// The word, or refusal 4.
-#[derive(Clone, Copy)]
-pub enum Word64 {
-    Value(u64),
-    Short,
-}
-
-// The element, or refusal 4.
-#[derive(Clone, Copy)]
-pub enum Word128 {
-    Value(Limbs),
-    Short,
-}
-
-// Written, or refusal 4.
-#[derive(Clone, Copy)]
-pub enum Room {
-    Done,
-    Short,
-}
-
-// The word of the eight bytes from `at`.
-fn word_at(s: &[u8], at: usize) -> u64
-    requires { at + 8 ≤ length s.now }
-    ensures { result ≡ word_of 8 (drop at s.now) }
-{
-    let mut word = 0u64;
-    let mut i = 0usize;
-    while i < 8 {
-        word ^= (s[at + i] as u64) << (8 * i);
-        i += 1;
-    }
-    word
-}
-
-// Puts a word into the eight bytes from `at`.
-fn put_at(d: &mut [u8], at: usize, v: u64)
-    requires { at + 8 ≤ length d.old }
-    ensures { d.new ≡ paste d.old at (bytes_of 8 v) 8 }
-{
-    let mut rest = v;
-    let mut i = 0usize;
-    while i < 8 {
-        d[at + i] = (rest % 256) as u8;
-        rest >>= 8;
-        i += 1;
-    }
-}
-
 // The word of the first 8 bytes.
-pub fn read_64(s: &[u8]) -> Word64
-    ensures { result ≡ read64 s.now }
+pub fn read_64(s: &[u8]) -> Result<u64, Refusal>
+    ensures { result ≡ read_of 8 s.now }
 {
-    if s.len() < 8 {
-        return Word64::Short;
-    }
-    Word64::Value(word_at(s, 0))
+    let bytes = s.first_chunk::<8>().ok_or(Refusal::Short)?;
+    Ok(u64::from_le_bytes(*bytes))
 }
 
 // Writes a word into the first 8 bytes, or nothing.
-pub fn write_64(d: &mut [u8], v: u64) -> Room
+pub fn write_64(d: &mut [u8], v: u64) -> Result<(), Refusal>
     ensures answer { result ≡ room_for 8 d.old }
     ensures bytes { d.new ≡ written 8 d.old v }
 {
-    if d.len() < 8 {
-        return Room::Short;
-    }
-    put_at(d, 0, v);
-    Room::Done
+    let bytes = d.first_chunk_mut::<8>().ok_or(Refusal::Short)?;
+    *bytes = v.to_le_bytes();
+    Ok(())
 }
 
 // The element of the first 16 bytes, its low limb first.
-pub fn read_128(s: &[u8]) -> Word128
-    ensures { result ≡ read128 s.now }
+pub fn read_128(s: &[u8]) -> Result<Limbs, Refusal>
+    ensures { result ≡ mapped limbs (read_of 16 s.now) }
 {
-    if s.len() < 16 {
-        return Word128::Short;
-    }
-    Word128::Value(Limbs {
-        low: word_at(s, 0),
-        high: word_at(s, 8),
-    })
+    let low = read_64(s)?;
+    let high = read_64(&s[8..])?;
+    Ok(Limbs { low, high })
 }
 
 // Writes an element into the first 16 bytes, its low limb first, or nothing.
-pub fn write_128(d: &mut [u8], v: Limbs) -> Room
+pub fn write_128(d: &mut [u8], v: Limbs) -> Result<(), Refusal>
     ensures answer { result ≡ room_for 16 d.old }
     ensures bytes { d.new ≡ written 16 d.old (value v) }
 {
     if d.len() < 16 {
-        return Room::Short;
+        return Err(Refusal::Short);
     }
-    put_at(d, 0, v.low);
-    put_at(d, 8, v.high);
-    Room::Done
+    write_64(d, v.low)?;
+    write_64(&mut d[8..], v.high)
 }

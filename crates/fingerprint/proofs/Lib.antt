@@ -1,4 +1,4 @@
 pub mod Turn
 pub mod Polynomial
-pub mod Refusal
+pub mod Refusals
 pub mod Unique

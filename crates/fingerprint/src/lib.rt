@@ -2,31 +2,30 @@
 #![tactic(auto)]
 
 ghost use Rattle.std.specs.Prelude.{◌≡◌};
-ghost use Rattle.fingerprint.specs.Print.{answer};
+ghost use Rattle.fingerprint.specs.Print.{limit, answer};
+
+use answers::Refusal;
 
 // As many words have a fingerprint.
-const LIMIT: usize = 4096;
+pub const LIMIT: usize = 4096;
 
-// The fingerprint, or refusal 6.
-#[derive(Clone, Copy)]
-pub enum Print {
-    Value(u64),
-    TooManyWords,
+// The constant, held to the number that the definition gives.
+fn most_words() -> usize
+    ensures { result ≡ limit }
+{
+    LIMIT
 }
 
-// From 0, XORs each word in and multiplies by the point.
-pub fn fingerprint(words: &[u64], point: u64) -> Print
+// From 0, XORs each word in and multiplies by the point; or refusal 6.
+pub fn fingerprint(words: &[u64], point: u64) -> Result<u64, Refusal>
     ensures { result ≡ answer words.now point }
 {
-    if LIMIT < words.len() {
-        return Print::TooManyWords;
+    if words.len() > most_words() {
+        return Err(Refusal::TooManyWords);
     }
-    let mut sum = 0u64;
-    let mut i = 0usize;
-    while i < words.len() {
-        let word = words[i];
-        sum = gf64::poly_mul_64(sum ^ word, point);
-        i += 1;
+    let mut sum = 0;
+    for word in words {
+        sum = gf64::poly_mul_64(sum ^ *word, point);
     }
-    Print::Value(sum)
+    Ok(sum)
 }

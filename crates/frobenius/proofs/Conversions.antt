@@ -2,7 +2,7 @@
 -- What meets a conversion's contract, as the checker reads it, is the one spelling of the same byte map, so that each of
 -- the 256 bytes goes where it went (`..-converts`); and the conversion back, called on it, answers what we started with.
 -- `Valid` holds of every word of 64 bits and every array of eight bytes: the reading of a contract leaves it to be said.
-use mathlib.Core.Path.{◌≡◌, sym, ap, ◌∙◌}
+use mathlib.Core.Path.{◌≡◌, ap}
 use mathlib.Core.List.{List}
 use Prim.Native.Nat.{ℕ}
 use Rattle.matrix.specs.declared.ByteMatrix.{ByteMatrix}
@@ -10,9 +10,9 @@ use Rattle.spellings.specs.Kinds.{Value, Valid}
 use Rattle.spellings.specs.Kinds.Kind.{Quadword, Images, Coefficients}
 use Rattle.spellings.specs.Theorem.{Converts}
 use Rattle.spellings.proofs.Bytes.{converts, there_and_back}
-use Rattle.frobenius.specs.Elements.{bytes, elements}
+use Rattle.frobenius.specs.Elements.{bytes}
 use Rattle.frobenius.specs.declared.LinearizedPoly8b.{LinearizedPoly8b}
-use Rattle.frobenius.proofs.Elements.{bytes-elements, elements-bytes, matrix, poly}
+use Rattle.frobenius.proofs.Elements.{matrix, spelled, poly_same}
 use Rattle.matrix.proofs.ByteMatrix.images.Reads as images
 use Rattle.matrix.proofs.ByteMatrix.from_images.Reads as matrix-from-images
 use Rattle.frobenius.proofs.LinearizedPoly8b.to_images.Reads as to-images
@@ -26,13 +26,6 @@ quadword m = m.0
 
 abbrev pub coefficients : LinearizedPoly8b → Value Coefficients
 coefficients p = bytes p.0
-
--- a polynomial with given coefficients
-spelled : (p : LinearizedPoly8b) {l : List ℕ} → p.0 ≡ elements l → coefficients p ≡ l
-spelled p {l} e = ap bytes e ∙ bytes-elements l
-
-poly-same : {p q : LinearizedPoly8b} → coefficients p ≡ coefficients q → p ≡ q
-poly-same {p} {q} e = ap poly (sym (elements-bytes p.0) ∙ ap elements e ∙ elements-bytes q.0)
 
 -- ---- each conversion is one in the theorem's sense
 
@@ -72,7 +65,7 @@ from_images-images κs κs' s s' l m l' e e' h = there_and_back Images Quadword 
 
 pub poly_to_images_from_images : (κs κs' : _) (s s' : _) (p : LinearizedPoly8b) (l : List ℕ) (p' : LinearizedPoly8b) → to-images.Post κs (p, tt) l s
     → from-images.Post κs' (l, tt) p' s' → Valid Coefficients (coefficients p) → p' ≡ p
-poly_to_images_from_images κs κs' s s' p l p' e e' h = poly-same (there_and_back Coefficients Images (coefficients p) h e (spelled p' e'))
+poly_to_images_from_images κs κs' s s' p l p' e e' h = poly_same (there_and_back Coefficients Images (coefficients p) h e (spelled p' e'))
 
 pub poly_from_images_to_images : (κs κs' : _) (s s' : _) (l : List ℕ) (p : LinearizedPoly8b) (l' : List ℕ) → from-images.Post κs (l, tt) p s
     → to-images.Post κs' (p, tt) l' s' → Valid Images l → l' ≡ l
@@ -80,7 +73,7 @@ poly_from_images_to_images κs κs' s s' l p l' e e' h = there_and_back Images C
 
 pub to_matrix_from_matrix : (κs κs' : _) (s s' : _) (p : LinearizedPoly8b) (m : ByteMatrix) (p' : LinearizedPoly8b) → to-matrix.Post κs (p, tt) m s
     → from-matrix.Post κs' (m, tt) p' s' → Valid Coefficients (coefficients p) → p' ≡ p
-to_matrix_from_matrix κs κs' s s' p m p' e e' h = poly-same (there_and_back Coefficients Quadword (coefficients p) h e (spelled p' e'))
+to_matrix_from_matrix κs κs' s s' p m p' e e' h = poly_same (there_and_back Coefficients Quadword (coefficients p) h e (spelled p' e'))
 
 pub from_matrix_to_matrix : (κs κs' : _) (s s' : _) (m : ByteMatrix) (p : LinearizedPoly8b) (m' : ByteMatrix) → from-matrix.Post κs (m, tt) p s
     → to-matrix.Post κs' (p, tt) m' s' → Valid Quadword (quadword m) → m' ≡ m

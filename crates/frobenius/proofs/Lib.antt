@@ -1,5 +1,6 @@
 pub mod Elements
 pub mod Owned
+pub mod Chains
 pub mod Frobenius
 pub mod Unique
 pub mod Conversions

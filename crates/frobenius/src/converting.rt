@@ -1,5 +1,6 @@
 // What the theorem of the three spellings says of the four conversions of polynomials, and that two ways lead to one answer, for
 // every value of the types. Nothing calls these: they are there for their contracts.
+// Kept: each says the theorem of its own two types, as in `matrix`.
 ghost use Rattle.std.specs.Prelude.{◌≡◌};
 ghost use Rattle.gf2.specs.Residue.{frob};
 ghost use Rattle.spellings.specs.Kinds.{Kind, meaning};

@@ -14,6 +14,7 @@ mod converting;
 
 use matrix::ByteMatrix;
 use rijndael::Rijndael8b;
+use std::array;
 
 // Entry k is the map that squares k times, as a quadword: tools/frobenius.py prints them, and the rule is proved of them.
 const FROBENIUS: [u64; 8] = [
@@ -41,33 +42,23 @@ pub fn frobenius_map(power_log: usize) -> ByteMatrix
 pub fn frobenius_orbit(x: Rijndael8b) -> [Rijndael8b; 8]
     ensures { result ≡ tab 8 (λ k. element (frob 8 0x1b k x.0)) }
 {
-    let v = x.to_byte();
-    let mut orbit = [Rijndael8b::ZERO; 8];
-    let mut k = 0usize;
-    while k < 8 {
-        orbit[k] = Rijndael8b::from_byte(frobenius_map(k).apply(v));
-        k += 1;
-    }
-    orbit
+    array::from_fn(|k| Rijndael8b::from_byte(frobenius_map(k).apply(x.to_byte())))
 }
 
 // Coefficient j of the map with these images: the sum of image b times the dual basis' entry b to the power 2^j.
 fn coefficient(images: [u8; 8], j: usize) -> u8
-    requires { j < 8 }
     ensures { result ≡ times 8 0x1b (λ b. get_or images b 0) (dual 8 0x1b dual8) j }
 {
     let map = frobenius_map(j);
-    let mut sum = 0u8;
-    let mut b = 0usize;
-    while b < 8 {
-        sum ^= rijndael::mul_bytes(images[b], map.apply(DUAL[b]));
-        b += 1;
-    }
-    sum
+    let pairs = images.iter().zip(&DUAL);
+    pairs.fold(
+        0,
+        |sum, (image, entry)| sum ^ rijndael::mul_bytes(*image, map.apply(*entry)),
+    )
 }
 
 // The byte map that sends v to the sum over j of entry j times v^(2^j).
-#[derive(Clone, Copy)]
+#[derive(Clone, Copy, Debug, PartialEq, Eq)]
 pub struct LinearizedPoly8b([Rijndael8b; 8]);
 
 impl LinearizedPoly8b {
@@ -89,31 +80,20 @@ impl LinearizedPoly8b {
     pub fn eval(self, x: Rijndael8b) -> Rijndael8b
         ensures { result.0 ≡ meaning Kind.Coefficients (bytes self.0) x.0 }
     {
-        let c = self.0;
         let orbit = frobenius_orbit(x);
-        let mut sum = Rijndael8b::ZERO;
-        let mut j = 0usize;
-        while j < 8 {
-            let term = c[j];
-            let power = orbit[j];
-            sum = sum.add(term.mul(power));
-            j += 1;
-        }
-        sum
+        let pairs = self.0.iter().zip(&orbit);
+        pairs.fold(
+            Rijndael8b::ZERO,
+            |sum, (coefficient, power)| sum + *coefficient * *power,
+        )
     }
 
     // Where the map sends the eight single-bit bytes, lowest bit first.
+    // Kept: `to_matrix` is the Rust's name, and eight bytes are images or coefficients: here and below a From would hide which.
     pub fn to_images(self) -> [u8; 8]
         ensures { result ≡ turn Kind.Coefficients Kind.Images (bytes self.0) }
     {
-        let mut images = [0u8; 8];
-        let mut b = 0usize;
-        while b < 8 {
-            let image = self.eval(Rijndael8b::from_byte(1u8 << b));
-            images[b] = image.to_byte();
-            b += 1;
-        }
-        images
+        array::from_fn(|b| self.eval(Rijndael8b::from_byte(1u8 << b)).to_byte())
     }
 
     // The same map as a quadword: a byte map is fixed by where it sends the single-bit bytes.
@@ -128,14 +108,7 @@ impl LinearizedPoly8b {
     pub fn from_images(images: [u8; 8]) -> Self
         ensures { result.0 ≡ elements (turn Kind.Images Kind.Coefficients images) }
     {
-        let mut c = [Rijndael8b::ZERO; 8];
-        let mut j = 0usize;
-        while j < 8 {
-            let found = coefficient(images, j);
-            c[j] = Rijndael8b::from_byte(found);
-            j += 1;
-        }
-        Self(c)
+        Self(array::from_fn(|j| Rijndael8b::from_byte(coefficient(images, j))))
     }
 
     // The way back from a quadword.

@@ -10,7 +10,7 @@ use Rattle.gf2.specs.Residue.{rem}
 use Rattle.gf2.proofs.Cmul.{cmul-lt}
 use Rattle.words.specs.declared.Limbs.{Limbs}
 use Rattle.words.specs.Limbs.{value, limbs}
-use Rattle.words.proofs.Value.{pair, add, value-limbs, limbs-value, limbs_low_lt, limbs_high_lt, limbs-xor}
+use Rattle.words.proofs.Value.{pair, add, value-limbs, limbs-xor}
 
 -- ---- 256 bits from their two halves
 
@@ -29,16 +29,6 @@ rem_halves n lt p q =
 
 pub cmul_values_lt : {a b : ℕ} → a < 2 ^ 128 → b < 2 ^ 128 → cmul a b < 2 ^ 256
 cmul_values_lt ha hb = lt_of_lt_of_le (cmul-lt 127 127 ha hb) (lit≤ tt)
-
--- ---- sums of halves
-
-limbs_again : (n : ℕ) → limbs (value (limbs n)) ≡ limbs n
-limbs_again n = limbs-value (limbs n) (limbs_low_lt n) (limbs_high_lt n)
-
-pub limbs-sum : (a b : ℕ) {l m : Limbs} → l ≡ limbs a → m ≡ limbs b → limbs (value l ⊕ value m) ≡ limbs (a ⊕ b)
-limbs-sum a b {l} {m} p q =
-    ap₂ (λ (x y : Limbs). limbs (value x ⊕ value y)) p q ∙ limbs-xor (value (limbs a)) (value (limbs b))
-    ∙ ap₂ add (limbs_again a) (limbs_again b) ∙ sym (limbs-xor a b)
 
 -- ---- three blocks, 64 bits apart
 

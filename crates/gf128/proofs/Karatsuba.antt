@@ -6,7 +6,7 @@ use Rattle.gf2.specs.Poly.{◌⊕◌, cmul}
 use Rattle.gf2.proofs.Fold.{cmul_blocks, karatsuba}
 use Rattle.words.specs.declared.Limbs.{Limbs}
 use Rattle.words.specs.Limbs.{value, limbs}
-use Rattle.words.proofs.Value.{pair, add, value-xor, limbs-xor}
+use Rattle.words.proofs.Value.{pair, value-xor, limbs-sum}
 use Rattle.clmul.proofs.Halves.{cmul_words_lt}
 use Rattle.gf128.proofs.Blocks.{blocks_low, blocks_high}
 
@@ -38,20 +38,19 @@ module _ (a b : Limbs) (a₀ : a.low < 2 ^ 64) (a₁ : a.high < 2 ^ 64) (b₀ : 
       xor_lt 128 (K ⊕ L) H
       (xor_lt 128 K L (cmul_words_lt (xor_lt 64 a.low a.high a₀ a₁) (xor_lt 64 b.low b.high b₀ b₁)) L-lt) (cmul_words_lt a₁ b₁)
 
-  M-limbs : limbs M ≡ add (add (limbs K) (limbs L)) (limbs H)
-  M-limbs = limbs-xor (K ⊕ L) H ∙ ap (λ (x : Limbs). add x (limbs H)) (limbs-xor K L)
-
-  -- as the code has it, from the three products' limbs
-  module _ {l h m : Limbs} (p : l ≡ limbs L) (q : h ≡ limbs H) (r : m ≡ limbs K) where
-    pub karatsuba_low : pair l.low (l.high ⊕ (m.low ⊕ l.low ⊕ h.low)) ≡ limbs (cmul (value a) (value b))
+  -- as the code has it, from the three products' limbs and the middle term's
+  module _ {l h m : Limbs} (p : l ≡ limbs L) (q : h ≡ limbs H) (r : m ≡ limbs M) where
+    pub karatsuba_low : pair l.low (l.high ⊕ m.low) ≡ limbs (cmul (value a) (value b))
     karatsuba_low =
-        (λ i. pair (p i).low ((p i).high ⊕ ((r i).low ⊕ (p i).low ⊕ (q i).low)))
-        ∙ ap (λ (x : Limbs). pair (limbs L).low ((limbs L).high ⊕ x.low)) (sym M-limbs)
-        ∙ ap (pair (limbs L).low) (xor_comm (limbs L).high (limbs M).low)
+        (λ i. pair (p i).low ((p i).high ⊕ (r i).low)) ∙ ap (pair (limbs L).low) (xor_comm (limbs L).high (limbs M).low)
         ∙ sym (ap limbs product_blocks ∙ blocks_low H M L M-lt L-lt)
 
-    pub karatsuba_high : pair (h.low ⊕ (m.high ⊕ l.high ⊕ h.high)) h.high ≡ limbs (cmul (value a) (value b) / 2 ^ 128)
+    pub karatsuba_high : pair (h.low ⊕ m.high) h.high ≡ limbs (cmul (value a) (value b) / 2 ^ 128)
     karatsuba_high =
-        (λ i. pair ((q i).low ⊕ ((r i).high ⊕ (p i).high ⊕ (q i).high)) (q i).high)
-        ∙ ap (λ (x : Limbs). pair ((limbs H).low ⊕ x.high) (limbs H).high) (sym M-limbs)
+        (λ i. pair ((q i).low ⊕ (r i).high) (q i).high)
         ∙ sym (ap (λ (x : ℕ). limbs (x / 2 ^ 128)) product_blocks ∙ blocks_high H M L M-lt L-lt)
+
+  -- the middle term, summed up limb by limb
+  pub middle : {l h k t m : Limbs} → l ≡ limbs L → h ≡ limbs H → k ≡ limbs K → t ≡ limbs (value k ⊕ value l)
+      → m ≡ limbs (value t ⊕ value h) → m ≡ limbs M
+  middle p q r s t = t ∙ limbs-sum (K ⊕ L) H (s ∙ limbs-sum K L r p) q

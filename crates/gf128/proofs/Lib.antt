@@ -2,5 +2,5 @@ pub mod Blocks
 pub mod Karatsuba
 pub mod Sums
 pub mod Square
-pub mod Answers
+pub mod Refusals
 pub mod Unique

@@ -1,18 +1,34 @@
 -- Sums of products over two lists of limbs, before their one reduction.
-use mathlib.Core.Path.{◌≡◌, refl, sym, ap, ap₂, ◌∙◌}
-use mathlib.Core.List.{List}
-use Prim.Native.Nat.{ℕ, ◌+◌, ◌*◌, ◌/◌, ◌^◌, ◌<◌}
+use Rattle.std.proofs.Common.{◌≡◌, ◌∙◌, refl, sym, ap, ap₂, arith, List, [], ℕ, zero, suc, ◌+◌, ◌*◌, ◌/◌, ◌^◌, ◌<◌, length, take, drop, get_or, drop-drop, get_or-drop, add-zero, lit<, not-suc-le-zero, le_of_suc-le-suc}
+use Rattle.std.proofs.lemmas.List.{get_or-take}
+use Rattle.std.specs.Simd.{first_chunks}
 use lib.Arith.{digits_lt}
 use lib.Bits.{xor_shr}
-use lib.ListN.{get_or}
 use Rattle.gf2.specs.Poly.{◌⊕◌, xsum, cmul}
 use Rattle.gf2.specs.Residue.{rem, dot}
 use Rattle.gf2.proofs.Sum.{xsum-lt, xsum_turn}
 use Rattle.gf2.proofs.Dot.{rem-dot}
 use Rattle.words.specs.declared.Limbs.{Limbs}
 use Rattle.words.specs.Limbs.{value, limbs}
+use Rattle.words.proofs.Value.{limbs-sum}
 use Rattle.gf128.specs.Answers.{element}
-use Rattle.gf128.proofs.Blocks.{limbs-sum, rem_halves, cmul_values_lt}
+use Rattle.gf128.proofs.Blocks.{rem_halves, cmul_values_lt}
+
+-- two limbs of a list are an element
+pair_at : (k : ℕ) (s : List ℕ) (i : ℕ) → i < k → get_or (first_chunks 2 k s) i [] ≡ take 2 (drop (2 * i) s)
+pair_at zero s i h = absurd (not-suc-le-zero h)
+pair_at (suc k) s zero h = refl
+pair_at (suc k) s (suc i) h =
+    let e : 2 + 2 * i ≡ 2 * suc i = omega arith in
+    pair_at k (drop 2 s) i (le_of_suc-le-suc h) ∙ ap (take 2) (drop-drop (2 * i) 2 s ∙ ap (λ (n : ℕ). drop n s) e)
+
+pub element-pair : (s : List ℕ) {pairs : List (List ℕ)} → pairs ≡ first_chunks 2 (length s / 2) s → length pairs ≡ length s / 2
+    → (i : ℕ) → i < length pairs → {x : List ℕ} → x ≡ get_or pairs i [] → element x 0 ≡ element s i
+element-pair s front len i h {x} e =
+    let p : x ≡ take 2 (drop (2 * i) s) = e ∙ ap (λ l. get_or l i []) front ∙ pair_at (length s / 2) s i (rw len at h) in
+    ap₂ (λ (u v : ℕ). u * 2 ^ 64 + v)
+    (ap (λ l. get_or l 1 0) p ∙ get_or-take 2 (drop (2 * i) s) 1 0 (lit< tt) ∙ get_or-drop (2 * i) s 1 0)
+    (ap (λ l. get_or l 0 0) p ∙ get_or-take 2 (drop (2 * i) s) 0 0 (lit< tt) ∙ get_or-drop (2 * i) s 0 0 ∙ ap (λ (n : ℕ). get_or s n 0) (add-zero (2 * i)))
 
 module _ (a b : List ℕ) where
   -- the first k products, summed up

@@ -1,24 +1,17 @@
--- What a sum of products over two lists of limbs answers: document 01's refusal, or the sum.
-use Rattle.std.specs.Prelude.{List, ℕ, ◌+◌, ◌*◌, ◌/◌, ◌%◌, ◌^◌, eqb, length, get_or}
-use Rattle.gf2.specs.Bits.{pick}
+-- The sum of the products of two lists of 128-bit elements, each element two limbs of its list.
+use Rattle.std.specs.Prelude.{List, ℕ, ◌+◌, ◌*◌, ◌/◌, ◌%◌, ◌^◌, not, eqb, length, get_or, Ok}
 use Rattle.gf2.specs.Residue.{dot}
+use Rattle.words.specs.declared.Limbs.{Limbs}
 use Rattle.words.specs.Limbs.{limbs}
-use Rattle.gf128.specs.declared.Dot128.{Dot128}
-use Rattle.gf128.specs.declared.Dot128.TheVariants.{Value, LengthsDiffer, OddLimbs}
+use Rattle.answers.specs.Answer.{Answer, refuse_if}
+use Rattle.answers.specs.declared.Refusal.TheVariants.{LengthsDiffer, OddLimbs}
 
 -- element i of a list of limbs: limb 2 i, and limb 2 i + 1 above it
 abbrev pub element : List ℕ → ℕ → ℕ
 element s i = get_or s (2 * i + 1) 0 * 2 ^ 64 + get_or s (2 * i) 0
 
--- LengthsDiffer where the lengths differ, else OddLimbs where a limb has no partner, else the sum of products
-unfoldable pub answer : List ℕ → List ℕ → Dot128
+-- refusal 2 where the lengths differ, or else 5 where a limb has no partner
+abbrev pub answer : List ℕ → List ℕ → Answer Limbs
 answer a b =
-    pick (eqb (length a) (length b))
-    (pick (eqb (length a % 2) 0) (Value (limbs (dot 128 0x87 (length a / 2) (element a) (element b)))) OddLimbs)
-    LengthsDiffer
-
--- the number of each answer: 0 with a value, and the refusals
-abbrev pub number : Dot128 → ℕ
-number (Value v) = 0
-number LengthsDiffer = 2
-number OddLimbs = 5
+    refuse_if (not (eqb (length a) (length b))) LengthsDiffer
+    (refuse_if (not (eqb (length a % 2) 0)) OddLimbs (Ok (limbs (dot 128 0x87 (length a / 2) (element a) (element b)))))

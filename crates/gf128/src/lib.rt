@@ -1,25 +1,24 @@
 // Arithmetic modulo x^128 + x^7 + x^2 + x + 1. An element is two limbs, the low one first.
 #![tactic(auto)]
 
-ghost use Rattle.std.specs.Prelude.{◌≡◌, ◌+◌, ◌*◌, ◌/◌, ◌^◌, ◌<◌, length};
+ghost use Rattle.std.specs.Prelude.{◌≡◌, ◌/◌, ◌^◌};
 ghost use Rattle.gf2.specs.Poly.{◌⊕◌, cmul};
 ghost use Rattle.gf2.specs.Residue.{mul, sq};
 ghost use Rattle.words.specs.Limbs.{value, limbs};
-ghost use Rattle.gf128.specs.Answers.{element, answer};
+ghost use Rattle.gf128.specs.Answers.{element as element_of, answer};
 
+use answers::Refusal;
 use words::Limbs;
 
 // The sum of two elements.
 pub fn add_128(a: Limbs, b: Limbs) -> Limbs
     ensures { result ≡ limbs (value a ⊕ value b) }
 {
-    Limbs {
-        low: a.low ^ b.low,
-        high: a.high ^ b.high,
-    }
+    a ^ b
 }
 
 // A product before its reduction: the lowest 128 bits, and those above.
+// Kept: `Limbs` has two words where this has two limbs: one type for both would put a parameter into every signature.
 #[derive(Clone, Copy)]
 struct Wide {
     low: Limbs,
@@ -32,21 +31,16 @@ fn wide_mul_128(a: Limbs, b: Limbs) -> Wide
     ensures low { result.low ≡ limbs (cmul (value a) (value b)) }
     ensures high { result.high ≡ limbs (cmul (value a) (value b) / 2 ^ 128) }
 {
-    let a0 = a.low;
-    let a1 = a.high;
-    let b0 = b.low;
-    let b1 = b.high;
-    let l = clmul::clmul_64x64(a0, b0);
-    let h = clmul::clmul_64x64(a1, b1);
-    let m = clmul::clmul_64x64(a0 ^ a1, b0 ^ b1);
-    let m0 = m.low ^ l.low ^ h.low;
-    let m1 = m.high ^ l.high ^ h.high;
+    let l = clmul::clmul_64x64(a.low, b.low);
+    let h = clmul::clmul_64x64(a.high, b.high);
+    let m = clmul::clmul_64x64(a.low ^ a.high, b.low ^ b.high);
+    let m = m ^ l ^ h;
     let low = Limbs {
         low: l.low,
-        high: l.high ^ m0,
+        high: l.high ^ m.low,
     };
     let high = Limbs {
-        low: h.low ^ m1,
+        low: h.low ^ m.high,
         high: h.high,
     };
     Wide { low, high }
@@ -57,9 +51,7 @@ pub fn poly_mul_128(a: Limbs, b: Limbs) -> Limbs
     ensures { result ≡ limbs (mul 128 0x87 (value a) (value b)) }
 {
     let product = wide_mul_128(a, b);
-    let low = product.low;
-    let high = product.high;
-    reduce::reduce_128(low, high)
+    reduce::reduce_128(product.low, product.high)
 }
 
 // The square of an element. The coefficients of a square stand two apart: each half spreads to 128 bits, with no cross
@@ -72,47 +64,34 @@ pub fn poly_square_128(a: Limbs) -> Limbs
     reduce::reduce_128(low, high)
 }
 
-// What a sum of products answers.
-#[derive(Clone, Copy)]
-pub enum Dot128 {
-    Value(Limbs),
-    LengthsDiffer,
-    OddLimbs,
-}
-
-// Element i of a list of limbs.
-fn element_at(s: &[u64], i: usize) -> Limbs
-    requires { 2 * i + 1 < length s.now }
-    ensures { value result ≡ element s.now i }
+// Two limbs as an element.
+fn element(limbs: &[u64; 2]) -> Limbs
+    ensures { value result ≡ element_of limbs.now 0 }
 {
-    let at = 2 * i;
-    Limbs {
-        low: s[at],
-        high: s[at + 1],
-    }
+    let [low, high] = *limbs;
+    Limbs { low, high }
 }
 
-// The sum of the products of two lists of elements, each element two limbs of the list, the low one first. The products
-// are summed up before the one reduction, which keeps sums.
-pub fn poly_dot_128(a: &[u64], b: &[u64]) -> Dot128
+// The sum of the products of two lists of elements, each element two limbs of its list, the low one first; or refusal 2, or
+// else 5. The products are summed up before the one reduction, which keeps sums.
+// Kept: beside `gf64::poly_dot_64` one loop for both needs a trait with five laws (element, product, zero, sum, reduction).
+pub fn poly_dot_128(a: &[u64], b: &[u64]) -> Result<Limbs, Refusal>
     ensures { result ≡ answer a.now b.now }
 {
     if a.len() != b.len() {
-        return Dot128::LengthsDiffer;
+        return Err(Refusal::LengthsDiffer);
     }
     if a.len() % 2 != 0 {
-        return Dot128::OddLimbs;
+        return Err(Refusal::OddLimbs);
     }
-    let mut low = Limbs { low: 0, high: 0 };
-    let mut high = Limbs { low: 0, high: 0 };
-    let mut i = 0;
-    while i < a.len() / 2 {
-        let product = wide_mul_128(element_at(a, i), element_at(b, i));
-        let l = product.low;
-        let h = product.high;
-        low = add_128(low, l);
-        high = add_128(high, h);
-        i += 1;
+    let (xs, _) = a.as_chunks::<2>();
+    let (ys, _) = b.as_chunks::<2>();
+    let mut low = Limbs::default();
+    let mut high = Limbs::default();
+    for (x, y) in xs.iter().zip(ys) {
+        let product = wide_mul_128(element(x), element(y));
+        low = low ^ product.low;
+        high = high ^ product.high;
     }
-    Dot128::Value(reduce::reduce_128(low, high))
+    Ok(reduce::reduce_128(low, high))
 }

@@ -25,3 +25,4 @@ pub mod Certificate
 pub mod Field
 pub mod Chain
 pub mod Refusal
+pub mod Arrays

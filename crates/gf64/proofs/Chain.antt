@@ -1,7 +1,6 @@
 -- The inverse's addition chain: powers a^(2^k - 1) for k = 1, 2, 3, 6, 12, 24, 48, 60, 63, and a last squaring.
-use mathlib.Core.Path.{◌≡◌, refl, sym, ap, ap₂, ◌∙◌}
+use mathlib.Core.Path.{◌≡◌, sym, ap, ap₂, ◌∙◌}
 use Prim.Native.Nat.{ℕ, ◌+◌, ◌-◌, ◌^◌, ◌<◌}
-use native.Mathlib.Numerals.{add-one}
 use lib.Dec.{lit<}
 use Rattle.gf2.specs.Residue.{mul, sq, pow, frob, inv}
 use Rattle.gf2.proofs.Ring.{mul-one_r}
@@ -28,12 +27,3 @@ frob-one x e = e
 pub ones_end : (a : ℕ) {x r : ℕ} → x ≡ ones 63 a → r ≡ sq 64 0x1b x → r ≡ inv 64 0x1b a
 unfolding ones
 ones_end a p e = e ∙ ap (sq 64 0x1b) p ∙ sym (inv-ones 63 0x1b (lit< tt) (lit< tt) a)
-
--- a loop that squares: before the first turn, and one turn
-pub frob_none : (x : ℕ) → x ≡ frob 64 0x1b 0 x
-unfolding frob
-frob_none x = refl
-
-pub frob_turn : (x i : ℕ) {y z : ℕ} → y ≡ frob 64 0x1b i x → z ≡ sq 64 0x1b y → z ≡ frob 64 0x1b (i + 1) x
-unfolding frob
-frob_turn x i p q = rw add-one (q ∙ ap (sq 64 0x1b) p)

@@ -2,5 +2,5 @@ pub mod Product
 pub mod Root
 pub mod Chain
 pub mod Dot
-pub mod Refusal
+pub mod Refusals
 pub mod Unique

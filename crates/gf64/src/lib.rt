@@ -5,24 +5,14 @@
 ghost use Rattle.std.specs.Prelude.{◌≡◌};
 ghost use Rattle.gf2.specs.Poly.{◌⊕◌};
 ghost use Rattle.gf2.specs.Residue.{mul, sq, frob, inv, root};
-ghost use Rattle.gf64.specs.Answers.{inverse_of, quotient_of, dot_of};
+ghost use Rattle.answers.specs.Quotient.{inverse_of, quotient_of};
+ghost use Rattle.gf64.specs.Answers.{dot_of};
+
+use answers::Refusal;
+use words::Limbs;
 
 // The square root of x.
 const ROOT_X: u64 = 0xffff_ffff_0000_000a;
-
-// An inverse or a quotient, or refusal 1.
-#[derive(Clone, Copy)]
-pub enum Inverse64 {
-    Value(u64),
-    NoInverse,
-}
-
-// A sum of products, or refusal 2.
-#[derive(Clone, Copy)]
-pub enum Dot64 {
-    Value(u64),
-    LengthsDiffer,
-}
 
 // The sum, and the difference.
 pub fn add_64(a: u64, b: u64) -> u64
@@ -56,14 +46,13 @@ pub fn poly_sqrt_64(a: u64) -> u64
 }
 
 // `count` squarings.
+// Kept: beside `exp_power_of_2` of `rijndael`; one loop for a word and an element needs a trait of squaring for its three lines.
 fn square_times(x: u64, count: usize) -> u64
     ensures { result ≡ frob 64 0x1b count x }
 {
     let mut y = x;
-    let mut done = 0usize;
-    while done < count {
+    for _ in 0..count {
         y = poly_square_64(y);
-        done += 1;
     }
     y
 }
@@ -85,41 +74,38 @@ pub fn poly_inverse_64(x: u64) -> u64
 }
 
 // The inverse, or refusal 1 for zero.
-pub fn try_inverse_64(x: u64) -> Inverse64
-    ensures { result ≡ inverse_of x }
+pub fn try_inverse_64(x: u64) -> Result<u64, Refusal>
+    ensures { result ≡ inverse_of 64 0x1b x }
 {
     if x == 0 {
-        return Inverse64::NoInverse;
+        return Err(Refusal::NoInverse);
     }
-    Inverse64::Value(poly_inverse_64(x))
+    Ok(poly_inverse_64(x))
 }
 
 // The dividend times the divisor's inverse, or refusal 1 where the divisor has none.
-pub fn div_64(a: u64, b: u64) -> Inverse64
-    ensures { result ≡ quotient_of a b }
+// Kept: `let .. else` and no `?`, and beside `Rijndael8b::div`: docs/DECISIONS.md, "Forms by place".
+pub fn div_64(a: u64, b: u64) -> Result<u64, Refusal>
+    ensures { result ≡ quotient_of 64 0x1b a b }
 {
-    let Inverse64::Value(inverse) = try_inverse_64(b) else {
-        return Inverse64::NoInverse;
+    let Ok(inverse) = try_inverse_64(b) else {
+        return Err(Refusal::NoInverse);
     };
-    Inverse64::Value(poly_mul_64(a, inverse))
+    Ok(poly_mul_64(a, inverse))
 }
 
 // The sum of the products of two lists, entry by entry, or refusal 2. The products are summed as they are, in two limbs,
 // and reduced once.
-pub fn poly_dot_64(a: &[u64], b: &[u64]) -> Dot64
+pub fn poly_dot_64(a: &[u64], b: &[u64]) -> Result<u64, Refusal>
     ensures { result ≡ dot_of a.now b.now }
 {
     if a.len() != b.len() {
-        return Dot64::LengthsDiffer;
+        return Err(Refusal::LengthsDiffer);
     }
-    let mut low = 0u64;
-    let mut high = 0u64;
-    let mut i = 0usize;
-    while i < a.len() {
-        let product = clmul::clmul_64x64(a[i], b[i]);
-        low ^= product.low;
-        high ^= product.high;
-        i += 1;
+    let mut sum = Limbs::default();
+    for (x, y) in a.iter().zip(b) {
+        let product = clmul::clmul_64x64(*x, *y);
+        sum = sum ^ product;
     }
-    Dot64::Value(reduce::reduce_64(words::Limbs { low, high }))
+    Ok(reduce::reduce_64(sum))
 }

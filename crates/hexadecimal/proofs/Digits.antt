@@ -1,10 +1,10 @@
 -- Digits and numbers in hexadecimal: what a digit stands for, by the place of its byte, and a turn of the loop that reads them.
-use Rattle.std.proofs.Common.{◌≡◌, ap₂, arith, add-one, le-leb, lt-ltb, le-ltb, pow-add, true, false, List, ltb, length, ◌&&◌, ℕ, zero, suc, ◌+◌, ◌-◌, ◌*◌, ◌^◌, ◌≤◌, ◌<◌, lt_of_lt_of_le, pow_mono, get_or}
+use Rattle.std.proofs.Common.{◌≡◌, ◌∙◌, ap, Bool, ap₂, arith, add-one, le-leb, lt-ltb, le-ltb, pow-add, true, false, List, ltb, length, ◌&&◌, ℕ, zero, suc, ◌+◌, ◌-◌, ◌*◌, ◌^◌, ◌≤◌, ◌<◌, lt_of_lt_of_le, pow_mono, get_or, Some, None}
 use Rattle.std.proofs.Math.Bool.{and-false}
-use Rattle.std.proofs.Math.Decide.{ℕ_discrete}
+use Rattle.std.proofs.Math.Decide.{ℕ_discrete, dec_lt}
 use Rattle.std.proofs.lemmas.Bool.{lt-leb}
-use Rattle.hexadecimal.specs.Hex.{digit_of, digits, number, between, hex_of}
-use Rattle.hexadecimal.specs.declared.Hex.TheVariants.{Value, Bad}
+use Rattle.gf2.specs.Bits.{pick}
+use Rattle.hexadecimal.specs.Hex.{digit_of, read_digit, digits, number, between, hex_of}
 
 module _ (c : ℕ) where
   within : (low high : ℕ) → low ≤ c → c ≤ high → between low high c ≡ true
@@ -45,6 +45,28 @@ module _ (c : ℕ) where
   unfolding digit_of
   digit_past h = simp (over 48 57 (omega arith) (omega arith), over 97 102 (omega arith) h, over 65 70 (omega arith) (omega arith))
 
+  -- a digit read is the byte's, and a byte that is not read is no digit
+  pub read_is : {d : ℕ} → Some d ≡ read_digit c → (d ≡ digit_of c) × (d < 16)
+  read_is {d} = go (dec_lt (digit_of c) 16)
+    where
+      go : Dec (digit_of c < 16) → Some d ≡ read_digit c → (d ≡ digit_of c) × (d < 16)
+      go (yes h) e =
+          let f : Some d ≡ Some (digit_of c) = e ∙ ap (λ (t : Bool). pick t (Some (digit_of c)) None) (lt-ltb (digit_of c) 16 h) in
+          let g : d ≡ digit_of c = cc in
+          (g, omega arith)
+      go (no n) e =
+          let f : Some d ≡ None = e ∙ ap (λ (t : Bool). pick t (Some (digit_of c)) None) (le-ltb (digit_of c) 16 (omega arith)) in
+          cc
+
+  pub read_bad : None ≡ read_digit c → 16 ≤ digit_of c
+  read_bad = go (dec_lt (digit_of c) 16)
+    where
+      go : Dec (digit_of c < 16) → None ≡ read_digit c → 16 ≤ digit_of c
+      go (yes h) e =
+          let f : None ≡ Some (digit_of c) = e ∙ ap (λ (t : Bool). pick t (Some (digit_of c)) None) (lt-ltb (digit_of c) 16 h) in
+          absurd cc
+      go (no n) e = omega arith
+
 -- ---- one digit more
 
 pub digits_more : (k : ℕ) (s : List ℕ) → digits k s ≡ true → digit_of (get_or s k 0) < 16 → digits (k + 1) s ≡ true
@@ -77,14 +99,14 @@ fits k h l = lt_of_lt_of_le l (pow_mono {i = 4 * k} {j = 64} (omega arith))
 -- ---- the whole text
 
 module _ (s : List ℕ) where
-  pub hex_empty : length s < 1 → hex_of s ≡ Bad
+  pub hex_empty : length s < 1 → hex_of s ≡ None
   hex_empty h = simp (under (length s) 1 16 h)
 
-  pub hex_long : 16 < length s → hex_of s ≡ Bad
+  pub hex_long : 16 < length s → hex_of s ≡ None
   hex_long h = simp (over (length s) 1 16 (omega arith) h)
 
-  pub hex_bad : (k : ℕ) → k < length s → 16 ≤ digit_of (get_or s k 0) → hex_of s ≡ Bad
+  pub hex_bad : (k : ℕ) → k < length s → 16 ≤ digit_of (get_or s k 0) → hex_of s ≡ None
   hex_bad k h b = simp (digits_bad k (length s) s h b, and-false (between 1 16 (length s)))
 
-  pub hex_good : 1 ≤ length s → length s ≤ 16 → digits (length s) s ≡ true → hex_of s ≡ Value (number (length s) s)
+  pub hex_good : 1 ≤ length s → length s ≤ 16 → digits (length s) s ≡ true → hex_of s ≡ Some (number (length s) s)
   hex_good l h e = simp (within (length s) 1 16 l h, e)

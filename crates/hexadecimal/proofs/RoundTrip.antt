@@ -1,10 +1,9 @@
 -- A word written in 16 digits, and read again.
-use Rattle.std.proofs.Common.{◌≡◌, sym, ◌∙◌, refl, true, List, length, ap, div-one, add-one, arith, lt-ltb, le-ltb, lit≤, shr-shr, ℕ, zero, suc, ◌+◌, ◌-◌, ◌*◌, ◌/◌, ◌%◌, ◌^◌, ◌≤◌, ◌<◌, get_or}
+use Rattle.std.proofs.Common.{◌≡◌, sym, ◌∙◌, refl, true, List, length, ap, div-one, add-one, arith, lt-ltb, le-ltb, lit≤, shr-shr, ℕ, zero, suc, ◌+◌, ◌-◌, ◌*◌, ◌/◌, ◌%◌, ◌^◌, ◌≤◌, ◌<◌, get_or, Some}
 use Rattle.std.proofs.Math.Nat.{div-eq_of_lt}
 use Rattle.std.proofs.Math.Decide.{dec_lt}
 use Rattle.gf2.proofs.Table.{length-tab, get_or-tab}
 use Rattle.hexadecimal.specs.Hex.{digit_of, digits, number, hex_of, glyph_of, text_of, Hexadecimal}
-use Rattle.hexadecimal.specs.declared.Hex.TheVariants.{Value}
 use Rattle.hexadecimal.proofs.Digits.{digit_decimal, digit_lower, digits_more, number_more, hex_good}
 
 -- a digit written is that digit
@@ -50,10 +49,10 @@ module _ (n : ℕ) (h : n < 2 ^ 64) where
       let w : m ≡ m / 16 * 16 + m % 16 = omega arith in
       ap (λ (x : ℕ). n / 2 ^ x) f ∙ w ∙ number_more k (text_of n) p (digit_text k (omega arith)) ∙ ap (λ (j : ℕ). number j (text_of n)) (add-one k)
 
-  pub text_read : hex_of (text_of n) ≡ Value n
+  pub text_read : hex_of (text_of n) ≡ Some n
   text_read =
       hex_good (text_of n) (rw length_text (lit≤ tt)) (rw length_text (lit≤ tt)) (rw length_text (text_digits 16 (lit≤ tt)))
-      ∙ ap Value (ap (λ (k : ℕ). number k (text_of n)) length_text ∙ sym (text_number 16 (lit≤ tt)) ∙ div-one n)
+      ∙ ap Some (ap (λ (k : ℕ). number k (text_of n)) length_text ∙ sym (text_number 16 (lit≤ tt)) ∙ div-one n)
 
 pub hexadecimal : Hexadecimal
 hexadecimal = record { text_read = text_read }

@@ -1,62 +1,35 @@
-// Numbers in hexadecimal, as the programs take and give them: digits in upper or lower case, and lower case.
+// Numbers in hexadecimal: read from digits in upper or lower case, written in lower case.
 #![tactic(auto)]
 
 ghost use Rattle.std.specs.Prelude.{◌≡◌, ◌<◌};
-ghost use Rattle.hexadecimal.specs.Hex.{digit_of, hex_of, glyph_of, text_of};
+ghost use Rattle.hexadecimal.specs.Hex.{read_digit, hex_of, glyph_of, text_of};
 
-// A number read from a text, or that the text is no number.
-#[derive(Clone, Copy)]
-pub enum Hex {
-    Value(u64),
-    Bad,
-}
-
-// What a hexadecimal digit stands for, and 16 for any other byte.
-pub fn digit(c: u8) -> u8
-    ensures { result ≡ digit_of c }
+// What a hexadecimal digit stands for; any other byte is no digit.
+#[tactic(auto, unfolding(crate::specs::Hex::digit_of))]
+pub fn digit(c: u8) -> Option<u8>
+    ensures { result ≡ read_digit c }
 {
-    if c < 48 {
-        return 16;
+    match c {
+        b'0'..=b'9' => Some(c - b'0'),
+        b'a'..=b'f' => Some(c - b'a' + 10),
+        b'A'..=b'F' => Some(c - b'A' + 10),
+        _ => None,
     }
-    if c <= 57 {
-        return c - 48;
-    }
-    if c < 65 {
-        return 16;
-    }
-    if c <= 70 {
-        return c - 55;
-    }
-    if c < 97 {
-        return 16;
-    }
-    if c <= 102 {
-        return c - 87;
-    }
-    16
 }
 
-// The number that 1 to 16 hexadecimal digits stand for; any other text is refused.
-pub fn parse_hex(text: &[u8]) -> Hex
+// The number that 1 to 16 hexadecimal digits stand for; any other text is no number.
+pub fn parse_hex(text: &[u8]) -> Option<u64>
     ensures { result ≡ hex_of text.now }
 {
-    if text.len() == 0 {
-        return Hex::Bad;
-    }
-    if text.len() > 16 {
-        return Hex::Bad;
+    if text.is_empty() || text.len() > 16 {
+        return None;
     }
     let mut number = 0u64;
-    let mut i = 0;
-    while i < text.len() {
-        let d = digit(text[i]);
-        if d > 15 {
-            return Hex::Bad;
-        }
+    for &c in text {
+        let d = digit(c)?;
         number = number * 16 + (d as u64);
-        i += 1;
     }
-    Hex::Value(number)
+    Some(number)
 }
 
 // The digit for a number below 16.
@@ -64,18 +37,12 @@ fn glyph(d: u8) -> u8
     requires { d < 16 }
     ensures { result ≡ glyph_of d }
 {
-    if d < 10 { 48 + d } else { 87 + d }
+    if d < 10 { b'0' + d } else { b'a' + (d - 10) }
 }
 
 // A word in sixteen digits, the highest first.
 pub fn text(number: u64) -> [u8; 16]
     ensures { result ≡ text_of number }
 {
-    let mut digits = [0u8; 16];
-    let mut i = 0usize;
-    while i < 16 {
-        digits[i] = glyph(((number >> (60 - 4 * i)) % 16) as u8);
-        i += 1;
-    }
-    digits
+    std::array::from_fn(|i| glyph(((number >> (60 - 4 * i)) % 16) as u8))
 }

@@ -14,7 +14,7 @@ const BIT_LADDER: u64 = 0x0102_0408_1020_4080;
 // The lowest bit of every byte. As a multiplier it puts one byte into all eight places.
 const SPREAD: u64 = 0x0101_0101_0101_0101;
 
-#[derive(Clone, Copy)]
+#[derive(Clone, Copy, Debug, PartialEq, Eq)]
 pub struct ByteMatrix(u64);
 
 impl ByteMatrix {
@@ -25,14 +25,13 @@ impl ByteMatrix {
     pub const IDENTITY: Self = Self(BIT_LADDER);
 
     // The map that sends 1 << b to entry b: bit 8 k + b of the quadword is bit 7 - k of that entry.
+    // Kept: here and in `images`: eight bytes are images or coefficients, and a From would hide which.
     pub fn from_images(images: [u8; 8]) -> Self
         ensures { result.0 ≡ turn Kind.Images Kind.Quadword images }
     {
         let mut quadword = 0u64;
-        let mut k = 0usize;
-        while k < 64 {
+        for k in 0..64usize {
             quadword ^= (((images[k % 8] >> (7 - k / 8)) & 1) as u64) << k;
-            k += 1;
         }
         Self(quadword)
     }
@@ -41,13 +40,7 @@ impl ByteMatrix {
     pub fn images(self) -> [u8; 8]
         ensures { result ≡ turn Kind.Quadword Kind.Images self.0 }
     {
-        let mut images = [0u8; 8];
-        let mut b = 0usize;
-        while b < 8 {
-            images[b] = self.apply(1u8 << b);
-            b += 1;
-        }
-        images
+        std::array::from_fn(|b| self.apply(1u8 << b))
     }
 
     // The image of one byte.
@@ -71,17 +64,11 @@ impl ByteMatrix {
     pub fn compose(self, first: Self) -> Self
         ensures { result.0 ≡ composed Kind.Quadword self.0 first.0 }
     {
-        let images = first.images();
-        let mut both = [0u8; 8];
-        let mut b = 0usize;
-        while b < 8 {
-            both[b] = self.apply(images[b]);
-            b += 1;
-        }
-        Self::from_images(both)
+        Self::from_images(std::array::from_fn(|b| self.apply(first.apply(1 << b))))
     }
 
     // The map held in a quadword already. Every quadword is one.
+    // Kept: bits, as `f64::from_bits`, and beside `from_images` the name says of what: a From would hide it.
     pub fn from_quadword(rows: u64) -> Self
         ensures { result.0 ≡ rows }
     {
@@ -99,10 +86,8 @@ impl ByteMatrix {
     pub fn apply_slice(self, bytes: &mut [u8])
         ensures { bytes.new ≡ tab (length bytes.old) (λ k. image self.0 (get_or bytes.old k 0)) }
     {
-        let mut i = 0usize;
-        while i < bytes.len() {
-            bytes[i] = self.apply(bytes[i]);
-            i += 1;
+        for byte in bytes.iter_mut() {
+            *byte = self.apply(*byte);
         }
     }
 }
@@ -122,6 +107,7 @@ fn identity() -> ByteMatrix
 
 // What the theorem of the three spellings says of the two conversions, for every matrix and every eight bytes. Nothing calls
 // these: they are there for their contracts.
+// Kept: here and in `frobenius` and `tower` each says the theorem of its own two types, and its contract is the whole of it.
 fn images_converts(map: ByteMatrix) -> [u8; 8]
     ensures { Converts Kind.Quadword Kind.Images map.0 result }
 {

@@ -1,7 +1,7 @@
 -- SHOWN: an answer as a record has it: its number, and two words, which are 0 where the call refuses.
-use Rattle.std.specs.Prelude.{ℕ, ◌^◌}
+use Rattle.std.specs.Prelude.{ℕ, ◌^◌, Ok, Err}
 use Rattle.words.specs.declared.Limbs.{Limbs}
-use Rattle.answers.specs.Answer.{Answer, Value, Refused, refusal, number}
+use Rattle.answers.specs.Answer.{Answer, refusal, number}
 use Rattle.answers.specs.declared.Refusal.{Refusal}
 use Rattle.records.specs.declared.Shown.{Shown}
 
@@ -9,8 +9,8 @@ abbrev pub refused_for : Refusal → Shown
 refused_for why = record { number = refusal why; low = 0; high = 0 }
 
 abbrev pub shown : Answer Limbs → Shown
-shown (Value v) = record { number = 0; low = v.low; high = v.high }
-shown (Refused why) = refused_for why
+shown (Ok v) = record { number = 0; low = v.low; high = v.high }
+shown (Err why) = refused_for why
 
 -- one word as two
 abbrev pub small : ℕ → Limbs

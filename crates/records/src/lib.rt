@@ -3,34 +3,32 @@
 // that a call takes stands in the lines after its record, eight entries a line.
 #![tactic(auto)]
 
-ghost use Rattle.std.specs.Prelude.{◌≡◌, ◌<◌, length};
-ghost use Rattle.answers.specs.Answer.{byte, word, wide, outcome, number, mapped};
-ghost use Rattle.records.specs.Lines.{word_at, line_of, agrees_of};
+ghost use Rattle.std.specs.Prelude.{◌≡◌};
+ghost use Rattle.answers.specs.Answer.{mapped};
+ghost use Rattle.words.specs.declared.Limbs.{Limbs};
+ghost use Rattle.records.specs.Lines.{line_of, agrees_of};
 ghost use Rattle.records.specs.Shown.{shown, small, shown_left, no_answer, refused_for};
-ghost use Rattle.records.specs.Tally.{none_of, with_of, closed_of, one_more_if_of};
+ghost use Rattle.records.specs.Tally.{with_of, closed_of};
 
-use answers::{Byte, Outcome, Refusal, Wide, Word};
-use hexadecimal::Hex;
+use answers::Refusal;
+use words::Limbs;
 
-// A line as it was read.
-#[derive(Clone, Copy)]
+// A line as it was read: its words, all of which are numbers.
+#[derive(Clone, Copy, Debug, PartialEq, Eq)]
 pub struct Line {
-    // Whether all its words are numbers.
-    pub good: bool,
-    // The words; zeros where one is no number.
     pub x: [u64; 8],
 }
 
 // An answer as a record has it.
-#[derive(Clone, Copy)]
+#[derive(Clone, Copy, Debug, PartialEq, Eq)]
 pub struct Shown {
     pub number: u64,
     pub low: u64,
     pub high: u64,
 }
 
-// How many cases there were, and how many agreed: in all, and in the present group.
-#[derive(Clone, Copy)]
+// How many cases there were, and how many agreed: in all, and in the present group. By default there were none.
+#[derive(Clone, Copy, Debug, Default, PartialEq, Eq)]
 pub struct Tally {
     pub cases: u64,
     pub agreed: u64,
@@ -38,34 +36,15 @@ pub struct Tally {
     pub group_agreed: u64,
 }
 
-// Word k of a line.
-fn word_at(text: &[u8], k: usize) -> Hex
-    requires text_len { length text.now ≡ 136 }
-    requires k_bound { k < 8 }
-    ensures { result ≡ word_at text.now k }
-{
-    let from = 17 * k;
-    let end = from + 16;
-    hexadecimal::parse_hex(&text[from..end])
-}
-
-// The words of a line.
-pub fn read(text: &[u8; 136]) -> Line
+// The words of a line, or nothing where one of them is no number.
+pub fn read(text: &[u8; 136]) -> Option<Line>
     ensures { result ≡ line_of text.now }
 {
     let mut x = [0u64; 8];
-    let mut k = 0usize;
-    while k < 8 {
-        let Hex::Value(value) = word_at(text, k) else {
-            return Line {
-                good: false,
-                x: [0u64; 8],
-            };
-        };
-        x[k] = value;
-        k += 1;
+    for (k, word) in x.iter_mut().enumerate() {
+        *word = hexadecimal::parse_hex(&text[17 * k..17 * k + 16])?;
     }
-    Line { good: true, x }
+    Some(Line { x })
 }
 
 impl Line {
@@ -73,90 +52,85 @@ impl Line {
     pub fn agrees(self, answer: Shown) -> bool
         ensures { result ≡ agrees_of self answer }
     {
-        let x = self.x;
-        if x[5] != answer.number {
-            return false;
-        }
-        if x[6] != answer.low {
-            return false;
-        }
-        if x[7] != answer.high {
-            return false;
-        }
-        self.good
+        let [.., number, low, high] = self.x;
+        Shown { number, low, high } == answer
     }
 }
 
-fn refused(why: Refusal) -> Shown
-    ensures { result ≡ refused_for why }
-{
-    Shown {
-        number: why.number() as u64,
-        low: 0,
-        high: 0,
+// A value that a record has in two words.
+pub trait TwoWords {
+    ghost two_words_of: { Self → Limbs };
+
+    fn two_words(self) -> Limbs
+        ensures { result ≡ two_words_of self };
+}
+
+impl TwoWords for u8 {
+    ghost two_words_of = { small };
+
+    fn two_words(self) -> Limbs {
+        u64::from(self).two_words()
     }
 }
 
-fn number_of(answer: Outcome) -> u64
-    ensures { result ≡ number (outcome answer) }
-{
-    match answer {
-        Outcome::Done => 0,
-        Outcome::Refused(why) => why.number() as u64,
+impl TwoWords for u64 {
+    ghost two_words_of = { small };
+
+    fn two_words(self) -> Limbs {
+        Limbs { low: self, high: 0 }
+    }
+}
+
+impl TwoWords for Limbs {
+    ghost two_words_of = { λ value. value };
+
+    fn two_words(self) -> Limbs {
+        self
+    }
+}
+
+impl From<Refusal> for Shown {
+    ghost from_gives = { λ why answer. answer ≡ refused_for why };
+
+    fn from(why: Refusal) -> Self {
+        Self {
+            number: u64::from(why.number()),
+            low: 0,
+            high: 0,
+        }
     }
 }
 
 impl Shown {
-    pub fn byte(answer: Byte) -> Self
-        ensures { result ≡ shown (mapped small (byte answer)) }
+    // The answer of a call that answers a value.
+    pub fn value<T: TwoWords>(answer: Result<T, Refusal>) -> Self
+        ensures { result ≡ shown (mapped T.two_words_of answer) }
     {
         match answer {
-            Byte::Value(value) => Self {
-                number: 0,
-                low: value as u64,
-                high: 0,
-            },
-            Byte::Refused(why) => refused(why),
-        }
-    }
-
-    pub fn word(answer: Word) -> Self
-        ensures { result ≡ shown (mapped small (word answer)) }
-    {
-        match answer {
-            Word::Value(value) => Self {
-                number: 0,
-                low: value,
-                high: 0,
-            },
-            Word::Refused(why) => refused(why),
-        }
-    }
-
-    pub fn wide(answer: Wide) -> Self
-        ensures { result ≡ shown (wide answer) }
-    {
-        match answer {
-            Wide::Value(value) => Self {
-                number: 0,
-                low: value.low,
-                high: value.high,
-            },
-            Wide::Refused(why) => refused(why),
+            Ok(value) => {
+                let Limbs { low, high } = value.two_words();
+                Self {
+                    number: 0,
+                    low,
+                    high,
+                }
+            }
+            Err(why) => why.into(),
         }
     }
 
     // The answer of a call that writes: its number, and how many lent bytes are as they should be.
-    pub fn left(answer: Outcome, matching: u64) -> Self
-        ensures { result ≡ shown_left (outcome answer) matching }
+    pub fn left(answer: Result<(), Refusal>, matching: u64) -> Self
+        ensures { result ≡ shown_left answer matching }
     {
         Self {
-            number: number_of(answer),
+            number: u64::from(answers::number(answer)),
             low: matching,
             high: 0,
         }
     }
 
+    // Kept: a number and no `None`: docs/PROMISES.md promises this call.
     // Of a call that nobody knows: a refusal's number is below 2^32.
     pub fn unknown() -> Self
         ensures { result ≡ no_answer }
@@ -169,37 +143,17 @@ impl Shown {
     }
 }
 
-fn one_more_if(n: u64, counts: bool) -> u64
-    ensures { result ≡ one_more_if_of n counts }
-{
-    if counts {
-        std::num::wrapping_add_u64(n, 1)
-    } else {
-        n
-    }
-}
-
 impl Tally {
-    pub fn none() -> Self
-        ensures { result ≡ none_of }
-    {
-        Self {
-            cases: 0,
-            agreed: 0,
-            group_cases: 0,
-            group_agreed: 0,
-        }
-    }
-
     // One case more.
     pub fn with(self, agrees: bool) -> Self
         ensures { result ≡ with_of self agrees }
     {
+        let agreed = u64::from(agrees);
         Self {
-            cases: one_more_if(self.cases, true),
-            agreed: one_more_if(self.agreed, agrees),
-            group_cases: one_more_if(self.group_cases, true),
-            group_agreed: one_more_if(self.group_agreed, agrees),
+            cases: self.cases.wrapping_add(1),
+            agreed: self.agreed.wrapping_add(agreed),
+            group_cases: self.group_cases.wrapping_add(1),
+            group_agreed: self.group_agreed.wrapping_add(agreed),
         }
     }
 
@@ -208,10 +162,9 @@ impl Tally {
         ensures { result ≡ closed_of self }
     {
         Self {
-            cases: self.cases,
-            agreed: self.agreed,
             group_cases: 0,
             group_agreed: 0,
+            ..self
         }
     }
 }

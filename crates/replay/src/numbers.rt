@@ -1,102 +1,130 @@
-// The numbers of a line.
-ghost use Rattle.std.specs.Prelude.{◌≤◌};
+// The numbers of a call: how arguments are read, and what an answer is recorded as.
+use answers::Refusal;
+use matrix::ByteMatrix;
+use rijndael::Rijndael8b;
+use std::alloc::{AllocFailed, Global};
+use std::num::TryFromIntError;
+use tower::BinaryField8;
+use words::Limbs;
 
-use crate::scan;
-use crate::scan::{Number, part};
-use crate::verdict::{Verdict, says};
-
-// How many numbers a line has before the `=`, and how many after it; none where the line cannot be read.
+// Why a call gets no verdict: the line has not the form that its call needs, or there is no memory.
 #[derive(Clone, Copy)]
-pub(crate) struct Fields {
-    pub given: usize,
-    pub answers: usize,
+pub(crate) enum Unjudged {
+    Unfit,
+    OutOfMemory,
 }
 
-fn unread() -> Fields {
-    Fields {
-        given: 0,
-        answers: 0,
-    }
-}
-
-// Reads the numbers after the name, which ends at `end`, into x.
-pub(crate) fn read(line: &[u8], end: usize, x: &mut [u64; 256]) -> Fields {
-    let mut given = 256usize;
-    let mut count = 0usize;
-    let mut at = end;
-    while at < line.len() {
-        let from = at + 1;
-        let stop = scan::end_of(line, from, b' ');
-        if check::same(part(line, from, stop), b"=") {
-            given = count;
-        } else {
-            let Number::Value(value) = scan::parse(part(line, from, stop)) else {
-                return unread();
-            };
-            if count < 256 {
-                x[count] = value;
-                count += 1;
-            } else {
-                return unread();
-            }
-        }
-        at = stop;
-    }
-    if given <= count {
-        Fields {
-            given,
-            answers: count - given,
-        }
-    } else {
-        unread()
+impl From<TryFromIntError> for Unjudged {
+    fn from(_error: TryFromIntError) -> Self {
+        Unjudged::Unfit
     }
 }
 
-impl Fields {
-    // Whether the line has so many arguments and so many answers.
-    pub(crate) fn are(self, given: usize, answers: usize) -> bool {
-        self.given == given && self.answers == answers
-    }
-
-    // Answer k, or 0 where there is none.
-    pub(crate) fn answer(self, x: &[u64; 256], k: usize) -> u64 {
-        let at = self.given;
-        if at < 256 {
-            if k < 256 - at {
-                return x[at + k];
-            }
-        }
-        0
-    }
-
-    // Whether the call was refused with this number.
-    pub(crate) fn refused(self, x: &[u64; 256], number: u64) -> Verdict {
-        says(self.answers == 1 && self.answer(x, 0) == number)
-    }
-
-    // Whether it was accepted with this value.
-    pub(crate) fn accepted(self, x: &[u64; 256], value: u64) -> Verdict {
-        says(self.answers == 2 && self.answer(x, 0) == 0 && self.answer(x, 1) == value)
+impl<T: Drop> From<AllocFailed<T>> for Unjudged {
+    fn from(_error: AllocFailed<T>) -> Self {
+        Unjudged::OutOfMemory
     }
 }
 
-// Where the list that starts at `at`, with its length, ends; 0 where it is too long.
-pub(crate) fn list_end(x: &[u64; 256], at: usize) -> usize
-    ensures { result ≤ 512 }
-{
-    if 255 < at {
-        return 0;
-    }
-    let n = x[at];
-    if n < 256 { at + 1 + (n as usize) } else { 0 }
+pub(crate) fn limbs(low: u64, high: u64) -> Limbs {
+    Limbs { low, high }
 }
 
-// The numbers from `from` to `end`, or all where that is no part of them.
-pub(crate) fn list(x: &[u64], from: usize, end: usize) -> &[u64] {
-    if from <= end {
-        if end <= x.len() {
-            return &x[from..end];
+pub(crate) fn element(x: u64) -> Result<Rijndael8b, Unjudged> {
+    Ok(Rijndael8b::from_byte(u8::try_from(x)?))
+}
+
+// Kept: beside `element`; one function for both would take the constructor as a parameter at each of its calls.
+pub(crate) fn tower_byte(x: u64) -> Result<BinaryField8, Unjudged> {
+    Ok(BinaryField8::from_repr(u8::try_from(x)?))
+}
+
+pub(crate) fn bytes(alloc: Global, numbers: &[u64]) -> Result<Vec<u8>, Unjudged> {
+    let mut bytes = Vec::new(alloc);
+    for x in numbers {
+        bytes.push(u8::try_from(*x)?)?;
+    }
+    Ok(bytes)
+}
+
+// The list at the front, which stands with its length before it, and the numbers after it.
+fn first_list(numbers: &[u64]) -> Result<(&[u64], &[u64]), Unjudged> {
+    let [length, rest @ ..] = numbers else {
+        return Err(Unjudged::Unfit);
+    };
+    rest.split_at_checked(*length as usize)
+        .ok_or(Unjudged::Unfit)
+}
+
+// A list that is all.
+pub(crate) fn list(numbers: &[u64]) -> Result<&[u64], Unjudged> {
+    match first_list(numbers)? {
+        (list, []) => Ok(list),
+        _ => Err(Unjudged::Unfit),
+    }
+}
+
+// Two lists that are all.
+pub(crate) fn lists(numbers: &[u64]) -> Result<(&[u64], &[u64]), Unjudged> {
+    let (first, rest) = first_list(numbers)?;
+    Ok((first, list(rest)?))
+}
+
+// What a call may answer.
+pub(crate) trait Answer {
+    // Whether these numbers are the answer's.
+    fn is(self, numbers: &[u64]) -> Result<bool, Unjudged>;
+}
+
+impl Answer for u64 {
+    fn is(self, numbers: &[u64]) -> Result<bool, Unjudged> {
+        match numbers {
+            [x] => Ok(*x == self),
+            _ => Err(Unjudged::Unfit),
         }
     }
-    x
+}
+
+impl Answer for Limbs {
+    fn is(self, numbers: &[u64]) -> Result<bool, Unjudged> {
+        match numbers {
+            [low, high] => Ok(limbs(*low, *high) == self),
+            _ => Err(Unjudged::Unfit),
+        }
+    }
+}
+
+impl Answer for u8 {
+    fn is(self, numbers: &[u64]) -> Result<bool, Unjudged> {
+        u64::from(self).is(numbers)
+    }
+}
+
+impl Answer for Rijndael8b {
+    fn is(self, numbers: &[u64]) -> Result<bool, Unjudged> {
+        self.to_byte().is(numbers)
+    }
+}
+
+impl Answer for BinaryField8 {
+    fn is(self, numbers: &[u64]) -> Result<bool, Unjudged> {
+        self.to_repr().is(numbers)
+    }
+}
+
+impl Answer for ByteMatrix {
+    fn is(self, numbers: &[u64]) -> Result<bool, Unjudged> {
+        self.to_quadword().is(numbers)
+    }
+}
+
+// 0 and the value, or the refusal's number. Any other numbers are another answer.
+impl<T: Answer + Drop> Answer for Result<T, Refusal> {
+    fn is(self, numbers: &[u64]) -> Result<bool, Unjudged> {
+        match (self, numbers) {
+            (Ok(value), [0, rest @ ..]) => Ok(value.is(rest).unwrap_or(false)),
+            (Err(refusal), [number]) => Ok(*number == u64::from(refusal.number())),
+            _ => Ok(false),
+        }
+    }
 }

@@ -7,9 +7,9 @@ use Rattle.rijndael.proofs.bytes.mul_bytes.Reads as mul-bytes
 use Rattle.rijndael.proofs.bytes.invert_byte.Reads as invert-byte
 use Rattle.rijndael.proofs.Rijndael8b.from_byte.Reads as from_byte
 use Rattle.rijndael.proofs.Rijndael8b.to_byte.Reads as to-byte
-use Rattle.rijndael.proofs.Rijndael8b.add.Reads as add
-use Rattle.rijndael.proofs.Rijndael8b.sub.Reads as sub
-use Rattle.rijndael.proofs.Rijndael8b.mul.Reads as mul
+use Rattle.rijndael.proofs.Rijndael8bAdd.add.Reads as add
+use Rattle.rijndael.proofs.Rijndael8bSub.sub.Reads as sub
+use Rattle.rijndael.proofs.Rijndael8bMul.mul.Reads as mul
 use Rattle.rijndael.proofs.Rijndael8b.square.Reads as square
 use Rattle.rijndael.proofs.Rijndael8b.exp_power_of_2.Reads as exp-power-of-2
 use Rattle.rijndael.proofs.Rijndael8b.sqrt.Reads as sqrt

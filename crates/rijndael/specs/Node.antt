@@ -1,15 +1,10 @@
 -- What asking for an interpolation node answers.
-use Rattle.std.specs.Prelude.{ℕ, nat_lt}
-use Rattle.gf2.specs.Bits.{pick}
+use Rattle.std.specs.Prelude.{ℕ, leb, Ok}
+use Rattle.answers.specs.Answer.{Answer, refuse_if}
+use Rattle.answers.specs.declared.Refusal.TheVariants.{BadIndex}
 use Rattle.rijndael.specs.Element.{element}
-use Rattle.rijndael.specs.declared.Node.{Node}
-use Rattle.rijndael.specs.declared.Node.TheVariants.{Value, BadIndex}
+use Rattle.rijndael.specs.declared.Rijndael8b.{Rijndael8b}
 
--- the number of an answer
-abbrev pub number : Node → ℕ
-number (Value x) = 0
-number BadIndex = 3
-
--- node i is the byte i; refusal 3 where there is no such byte
-abbrev pub node_of : ℕ → Node
-node_of i = pick (nat_lt i 256) (Value (element i)) BadIndex
+-- node i is the byte i; refusal 3 from 256 up
+abbrev pub node_of : ℕ → Answer Rijndael8b
+node_of i = refuse_if (leb 256 i) BadIndex (Ok (element i))

@@ -4,6 +4,7 @@ ghost use Rattle.gf2.specs.Poly.{cmul};
 ghost use Rattle.gf2.specs.Residue.{mul, inv};
 
 // The carryless product by the modulus below its leading term: the four set bits of 0x1b are the four shifts.
+// Kept: beside `folded` of `reduce`, which is modulo 2^64; of 16 bits nothing may fall out.
 fn fold_tail(v: u16) -> u16
     requires { v < 2 ^ 12 }
     ensures { result ≡ cmul v 0x1b }
@@ -15,14 +16,12 @@ fn fold_tail(v: u16) -> u16
 fn carryless(a: u8, b: u8) -> u16
     ensures { result ≡ cmul a b }
 {
-    let wide = a as u16;
+    let wide = u16::from(a);
     let mut acc = 0u16;
-    let mut i = 0u32;
-    while i < 8 {
+    for i in 0..8u32 {
         // All ones when bit i of the second operand is set, all zeros otherwise.
-        let selected = std::num::wrapping_sub_u16(0, ((b >> i) & 1) as u16);
+        let selected = 0u16.wrapping_sub(u16::from((b >> i) & 1));
         acc ^= (wide << i) & selected;
-        i += 1;
     }
     acc
 }

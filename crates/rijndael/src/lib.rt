@@ -7,45 +7,20 @@ ghost use Rattle.std.specs.Prelude.{◌≡◌, [], ◌∷◌};
 ghost use Rattle.gf2.specs.Poly.{◌⊕◌};
 ghost use Rattle.gf2.specs.Residue.{mul as product, sq, frob, inv, root};
 ghost use Rattle.spellings.specs.Kinds.{Kind, find};
+ghost use Rattle.answers.specs.Answer.{mapped};
+ghost use Rattle.answers.specs.Quotient.{inverse_of, quotient_of};
+ghost use Rattle.answers.specs.Lent.{read_of, room_for, written};
 ghost use Rattle.rijndael.specs.Element.{element};
-ghost use Rattle.rijndael.specs.Inverse.{inverse_of, quotient_of};
 ghost use Rattle.rijndael.specs.Node.{node_of};
-ghost use Rattle.rijndael.specs.Read.{read_of};
-ghost use Rattle.rijndael.specs.Write.{write_of, bytes_after};
 
+use answers::Refusal;
 pub use bytes::{invert_byte, mul_bytes};
+use std::array;
+use std::ops::{Add, Mul, Sub};
 
 // An element of the field. Bit i is the coefficient of x^i, and every byte is an element.
-#[derive(Clone, Copy)]
+#[derive(Clone, Copy, Debug, PartialEq, Eq)]
 pub struct Rijndael8b(u8);
-
-// What inverting or dividing answers: the value, or refusal 1.
-#[derive(Clone, Copy)]
-pub enum Inverse8 {
-    Value(Rijndael8b),
-    NoInverse,
-}
-
-// What asking for an interpolation node answers: the value, or refusal 3.
-#[derive(Clone, Copy)]
-pub enum Node {
-    Value(Rijndael8b),
-    BadIndex,
-}
-
-// What reading answers: the value, or refusal 4.
-#[derive(Clone, Copy)]
-pub enum Read8 {
-    Value(Rijndael8b),
-    Short,
-}
-
-// What writing answers: done, or refusal 4.
-#[derive(Clone, Copy)]
-pub enum Written {
-    Done,
-    Short,
-}
 
 impl Rijndael8b {
     pub const ZERO: Self = Self(0);
@@ -55,6 +30,7 @@ impl Rijndael8b {
     // The image of the tower byte 0x13.
     pub const GENERATOR: Self = Self(0x88);
 
+    // Kept: bits, as `f64::from_bits`: the number 2 is 1 + 1, that is 0, in this field, and `From<u8>` would say so.
     pub fn from_byte(byte: u8) -> Self
         ensures { result.0 ≡ byte }
     {
@@ -67,43 +43,21 @@ impl Rijndael8b {
         self.0
     }
 
-    pub fn add(self, rhs: Self) -> Self
-        ensures { result.0 ≡ self.0 ⊕ rhs.0 }
-    {
-        Self(self.0 ^ rhs.0)
-    }
-
-    // Over two elements the difference is the sum.
-    pub fn sub(self, rhs: Self) -> Self
-        ensures { result.0 ≡ self.0 ⊕ rhs.0 }
-    {
-        self.add(rhs)
-    }
-
-    pub fn mul(self, rhs: Self) -> Self
-        ensures { result.0 ≡ product 8 0x1b self.0 rhs.0 }
-    {
-        Self(mul_bytes(self.0, rhs.0))
-    }
-
     pub fn square(self) -> Self
         ensures { result.0 ≡ sq 8 0x1b self.0 }
     {
-        self.mul(self)
+        self * self
     }
 
     // Squared `power_log` times. Eight squarings change nothing, so only the remainder by 8 is done.
     pub fn exp_power_of_2(self, power_log: usize) -> Self
         ensures { result.0 ≡ frob 8 0x1b power_log self.0 }
     {
-        let turns = power_log % 8;
-        let mut x = self.0;
-        let mut i = 0usize;
-        while i < turns {
-            x = mul_bytes(x, x);
-            i += 1;
+        let mut x = self;
+        for _turn in 0..power_log % 8 {
+            x = x.square();
         }
-        Self(x)
+        x
     }
 
     // The square root: seven squarings, since the eighth gives the element back.
@@ -121,73 +75,96 @@ impl Rijndael8b {
     }
 
     // The inverse, or refusal 1 for zero. The chain runs whatever the operand is.
-    pub fn try_inverse(self) -> Inverse8
-        ensures { result ≡ inverse_of self.0 }
+    pub fn try_inverse(self) -> Result<Self, Refusal>
+        ensures { result ≡ mapped element (inverse_of 8 0x1b self.0) }
     {
         let inverse = self.invert_or_zero();
         if self.0 == 0 {
-            Inverse8::NoInverse
+            Err(Refusal::NoInverse)
         } else {
-            Inverse8::Value(inverse)
+            Ok(inverse)
         }
     }
 
     // The dividend times the inverse of the divisor, or refusal 1 where that has none.
-    pub fn div(self, divisor: Self) -> Inverse8
-        ensures { result ≡ quotient_of self.0 divisor.0 }
+    // Kept: no `Div`, whose answer is a quotient; `let .. else` and no `?`, and beside `gf64::div_64`: docs/DECISIONS.md, "Forms by place".
+    pub fn div(self, divisor: Self) -> Result<Self, Refusal>
+        ensures { result ≡ mapped element (quotient_of 8 0x1b self.0 divisor.0) }
     {
-        let Inverse8::Value(inverse) = divisor.try_inverse() else {
-            return Inverse8::NoInverse;
+        let Ok(inverse) = divisor.try_inverse() else {
+            return Err(Refusal::NoInverse);
         };
-        Inverse8::Value(self.mul(inverse))
+        Ok(self * inverse)
     }
 
     // The enumeration by bit pattern: node i is the byte i, and refusal 3 from 256 up.
-    pub fn interpolation_node(i: usize) -> Node
+    pub fn interpolation_node(i: usize) -> Result<Self, Refusal>
         ensures { result ≡ node_of i }
     {
-        if i < 256 {
-            let byte = i as u8;
-            Node::Value(Self(byte))
-        } else {
-            Node::BadIndex
-        }
+        let Ok(byte) = u8::try_from(i) else {
+            return Err(Refusal::BadIndex);
+        };
+        Ok(Self(byte))
     }
 
     // The first byte, or refusal 4 where there is none. Later bytes are ignored.
-    pub fn read(s: &[u8]) -> Read8
-        ensures { result ≡ read_of s.now }
+    pub fn read(s: &[u8]) -> Result<Self, Refusal>
+        ensures { result ≡ mapped element (read_of 1 s.now) }
     {
-        if s.len() < 1 {
-            return Read8::Short;
+        match s {
+            [first, ..] => Ok(Self(*first)),
+            [] => Err(Refusal::Short),
         }
-        let first = s[0];
-        Read8::Value(Self(first))
     }
 
     // Writes the first byte and leaves the others as they were; refusal 4 where there is none.
-    pub fn write(self, d: &mut [u8]) -> Written
-        ensures answer { result ≡ write_of d.old }
-        ensures bytes { d.new ≡ bytes_after self.0 d.old }
+    pub fn write(self, d: &mut [u8]) -> Result<(), Refusal>
+        ensures answer { result ≡ room_for 1 d.old }
+        ensures bytes { d.new ≡ written 1 d.old self.0 }
     {
-        if d.len() < 1 {
-            return Written::Short;
-        }
-        d[0] = self.0;
-        Written::Done
+        let [first, ..] = d else {
+            return Err(Refusal::Short);
+        };
+        *first = self.0;
+        Ok(())
     }
 
     // Multiplication by this element as a byte matrix: the images of the eight single-bit bytes.
     pub fn scaling_matrix(self) -> matrix::ByteMatrix
         ensures { result.0 ≡ find Kind.Quadword (product 8 0x1b self.0) }
     {
-        let mut images = [0u8; 8];
-        let mut b = 0usize;
-        while b < 8 {
-            images[b] = mul_bytes(self.0, 1u8 << b);
-            b += 1;
-        }
-        matrix::ByteMatrix::from_images(images)
+        matrix::ByteMatrix::from_images(array::from_fn(|b| mul_bytes(self.0, 1 << b)))
+    }
+}
+
+impl Add for Rijndael8b {
+    type Output = Self;
+
+    ghost add_gives = { λ a b c. c.0 ≡ a.0 ⊕ b.0 };
+
+    fn add(self, rhs: Self) -> Self {
+        Self(self.0 ^ rhs.0)
+    }
+}
+
+// Over two elements the difference is the sum.
+impl Sub for Rijndael8b {
+    type Output = Self;
+
+    ghost sub_gives = { λ a b c. c.0 ≡ a.0 ⊕ b.0 };
+
+    fn sub(self, rhs: Self) -> Self {
+        self + rhs
+    }
+}
+
+impl Mul for Rijndael8b {
+    type Output = Self;
+
+    ghost mul_gives = { λ a b c. c.0 ≡ product 8 0x1b a.0 b.0 };
+
+    fn mul(self, rhs: Self) -> Self {
+        Self(mul_bytes(self.0, rhs.0))
     }
 }
 

@@ -1,10 +1,12 @@
 -- The words that a map's packing leaves are the map's, where it has room for them.
-use Rattle.std.proofs.Common.{◌≡◌, ℕ, ◌*◌, ◌≤◌, ◌<◌, refl, sym, ap, ◌∙◌, Bool, true, false, List, ltb, leb, length, get_or, take, ext_get_or, get_or-take, length-take-le, arith, lt_of_lt_of_le, leb-true, leb-false, le-leb, lt-ltb}
+use Rattle.std.proofs.Common.{◌≡◌, ℕ, ◌*◌, ◌≤◌, ◌<◌, sym, ap, ◌∙◌, Bool, List, ltb, length, get_or, take, ext_get_or, get_or-take, length-take-le, arith, lt_of_lt_of_le, ltb-false, le-ltb, le-leb, lt-ltb, Ok, Err}
+use Rattle.std.proofs.Math.Decide.{dec_le}
 use Rattle.gf2.specs.Bits.{pick, tab}
 use Rattle.gf2.proofs.Table.{length-tab, get_or-tab}
-use Rattle.coach.specs.Rows.{words_for_rows, row_word_of, packed_answer, packed, refusal}
-use Rattle.coach.specs.declared.Packed.{Packed}
-use Rattle.coach.specs.declared.Packed.TheVariants.{Words, Short}
+use Rattle.answers.specs.declared.Refusal.{Refusal}
+use Rattle.answers.specs.declared.Refusal.TheVariants.{Short}
+use Rattle.answers.proofs.Refusals.{accepts, accepted}
+use Rattle.coach.specs.Rows.{words_for_rows, row_word_of, packed_answer, packed}
 use Rattle.seat_lines.specs.Print.{row_words}
 
 module _ (rows : List ℕ) where
@@ -21,32 +23,22 @@ module _ (rows : List ℕ) where
     entry : ℕ → ℕ
     entry i = pick (ltb i (words_for_rows (length rows))) (row_word_of rows (8 * i)) (get_or old i 0)
 
-    answered : Bool → Packed
-    answered t = pick t (Words (words_for_rows (length rows))) Short
-
     -- it refuses: the words lent were too few
-    pub packing_refused : Short ≡ packed_answer rows old → length old < length (row_words rows)
-    unfolding answered
-    packing_refused e =
-        rw length-words (leb-false (words_for_rows (length rows)) (length old) (go (leb (words_for_rows (length rows)) (length old)) e))
+    pub packing_refused : {why : Refusal} → Err why ≡ packed_answer rows old → length old < length (row_words rows)
+    packing_refused {why} e = rw length-words (go (dec_le (words_for_rows (length rows)) (length old)))
       where
-        go : (t : Bool) → Short ≡ answered t → t ≡ false
-        go true e = let z : ◌≡◌ {A = ℕ} 4 0 = ap refusal e in absurd (omega arith)
-        go false e = refl
+        go : Dec (words_for_rows (length rows) ≤ length old) → length old < words_for_rows (length rows)
+        go (yes h) =
+            let z = e ∙ accepts (ltb (length old) (words_for_rows (length rows))) Short (Ok (words_for_rows (length rows))) (le-ltb (length old) (words_for_rows (length rows)) h) in
+            absurd (cc)
+        go (no n) = omega arith
 
     -- it answers: how many they are
-    pub packing_value : {n : ℕ} → Words n ≡ packed_answer rows old → (n ≡ words_for_rows (length rows)) × (words_for_rows (length rows) ≤ length old)
-    unfolding answered
-    packing_value {n} e = go (leb (words_for_rows (length rows)) (length old)) refl e
-      where
-        count : Packed → ℕ
-        count (Words m) = m
-        count Short = 0
-
-        go : (t : Bool) → leb (words_for_rows (length rows)) (length old) ≡ t → Words n ≡ answered t
-            → (n ≡ words_for_rows (length rows)) × (words_for_rows (length rows) ≤ length old)
-        go true l e = (ap count e, leb-true (words_for_rows (length rows)) (length old) l)
-        go false l e = let z : ◌≡◌ {A = ℕ} 0 4 = ap refusal e in absurd (omega arith)
+    pub packing_value : {n : ℕ} → Ok n ≡ packed_answer rows old → (n ≡ words_for_rows (length rows)) × (words_for_rows (length rows) ≤ length old)
+    packing_value {n} e =
+        let p = accepted (ltb (length old) (words_for_rows (length rows))) Short (Ok (words_for_rows (length rows))) (sym e) in
+        let v : Ok (words_for_rows (length rows)) ≡ Ok n = p.1 in
+        (cc, ltb-false (length old) (words_for_rows (length rows)) p.0)
 
     swept : words_for_rows (length rows) ≤ length old → packed rows old ≡ tab (length old) entry
     unfolding entry
@@ -68,7 +60,7 @@ module _ (rows : List ℕ) where
         get_or-take (words_for_rows (length rows)) (tab (length old) entry) i 0 b
         ∙ get_or-tab (length old) entry 0 i (lt_of_lt_of_le b h) ∙ entry_below i b ∙ sym (word_at i b))
 
-    pub packed_value : {n : ℕ} → Words n ≡ packed_answer rows old → take n (packed rows old) ≡ row_words rows
+    pub packed_value : {n : ℕ} → Ok n ≡ packed_answer rows old → take n (packed rows old) ≡ row_words rows
     packed_value {n} e =
         let p = packing_value e in
         ap (λ (k : ℕ). take k (packed rows old)) p.0

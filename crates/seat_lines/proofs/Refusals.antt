@@ -1,18 +1,14 @@
 -- The refusal is given exactly in its case, and the value in every other; and it is what a map's packing leads to that finds too
 -- few words.
-use Rattle.std.proofs.Common.{◌≡◌, ◌↔◌, ℕ, ◌*◌, ◌≤◌, ◌<◌, sym, ap, Bool, List, ltb, length, arith, lt-ltb, le-ltb, le-leb}
+use Rattle.std.proofs.Common.{◌≡◌, ◌↔◌, ℕ, ◌*◌, ◌≤◌, ◌<◌, sym, ap, Bool, List, ltb, length, arith, lt-ltb, Ok, Err}
 use Rattle.std.proofs.Math.Logic.Iff
-use Rattle.std.proofs.lemmas.Bool.{lt-leb}
-use Rattle.std.proofs.Math.Decide.{dec_le}
-use Rattle.answers.specs.Answer.{Answer, Value, Refused, refuse_if}
+use Rattle.answers.specs.Answer.{refuse_if}
+use Rattle.answers.specs.declared.Refusal.{Refusal}
 use Rattle.answers.specs.declared.Refusal.TheVariants.{TooManyWords}
 use Rattle.answers.proofs.Refusals.{refuses, accepts_where, below, not_below}
 use Rattle.fingerprint.specs.Print.{limit, print_of, answer}
-use Rattle.fingerprint.specs.declared.Print.{Print}
-use Rattle.fingerprint.specs.declared.Print.TheVariants as print-answer
 use Rattle.coach.specs.Rows.{packed_answer}
-use Rattle.coach.specs.declared.Packed.TheVariants.{Short}
-use Rattle.seat_lines.specs.Print.{row_words, fingerprint_of}
+use Rattle.seat_lines.specs.Print.{row_words}
 use Rattle.seat_lines.specs.Refusals.{RefusalsRows}
 use Rattle.seat_lines.proofs.Packing.{length-words, packing_refused}
 
@@ -35,22 +31,8 @@ refusals_rows = record {
 }
 
 -- packing into as many words as a fingerprint may have refuses: so does the fingerprint
-pub print_refused : (rows old : List ℕ) (point : ℕ) → length old ≡ limit → Short ≡ packed_answer rows old
-    → Refused TooManyWords ≡ fingerprint_of (row_words rows) point
+pub print_refused : (rows old : List ℕ) (point : ℕ) {why : Refusal} → length old ≡ limit → Err why ≡ packed_answer rows old
+    → Err TooManyWords ≡ answer (row_words rows) point
 print_refused rows old point l e =
     let h : limit < length (row_words rows) = rw l at (packing_refused rows old e) in
-    sym (ap (λ (t : Bool). refuse_if t TooManyWords (Value (print_of (row_words rows) point))) (lt-ltb limit (length (row_words rows)) h))
-
--- what the fingerprint of words answers, as an answer with a value or a refusal
-abbrev pub read_print : Print → Answer ℕ
-read_print (print-answer.Value v) = Value v
-read_print print-answer.TooManyWords = Refused TooManyWords
-
-pub print_read : (words : List ℕ) (point : ℕ) → read_print (answer words point) ≡ fingerprint_of words point
-print_read words point = go (dec_le (length words) limit)
-  where
-    go : Dec (length words ≤ limit) → read_print (answer words point) ≡ fingerprint_of words point
-    go (yes h) = simp (le-leb (length words) limit h, le-ltb limit (length words) h)
-    go (no n) =
-        let h : limit < length words = omega arith in
-        simp (lt-leb (length words) limit h, lt-ltb limit (length words) h)
+    sym (ap (λ (t : Bool). refuse_if t TooManyWords (Ok (print_of (row_words rows) point))) (lt-ltb limit (length (row_words rows)) h))

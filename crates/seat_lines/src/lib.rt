@@ -2,17 +2,12 @@
 #![tactic(auto)]
 
 ghost use Rattle.std.specs.Prelude.{◌≡◌, ◌*◌, ◌<◌};
-ghost use Rattle.answers.specs.Answer.{word};
-ghost use Rattle.fingerprint.specs.Print.{limit};
+ghost use Rattle.fingerprint.specs.Print.{limit, answer};
 ghost use Rattle.seat_lines.specs.Line.{place_of, line_of};
-ghost use Rattle.seat_lines.specs.Print.{row_words, fingerprint_of};
+ghost use Rattle.seat_lines.specs.Print.{row_words};
 
-use answers::{Refusal, Word};
-use coach::Packed;
-use fingerprint::Print;
-
-// As many words have a fingerprint, and no more. `rows` ties it to the number in the fingerprint's contract.
-const LIMIT: usize = 4096;
+use answers::Refusal;
+pub use fingerprint::LIMIT;
 
 // As many rows have a fingerprint, and no more: eight for each word.
 pub const ROWS: usize = 8 * LIMIT;
@@ -37,6 +32,7 @@ fn place(number: usize, unit: usize) -> u8
 
 // The line "    1  #..# ....   .... #..#": the row's number in five places, its seats before and after, with the aisle between
 // seats 3 and 4, and the line's end.
+// Kept: byte by byte and no `write!`: the clause says each byte (`line_of`), and of formatted text nothing is proved.
 pub fn row_line(number: usize, before: u8, after: u8) -> [u8; 29]
     ensures { result ≡ line_of number before after }
 {
@@ -76,15 +72,13 @@ pub fn row_line(number: usize, before: u8, after: u8) -> [u8; 29]
 }
 
 // The fingerprint of a map at a point, that of its words; or refusal 6 where they are too many.
-pub fn fingerprint_rows(rows: &[u8], point: u64) -> Word
-    ensures { word result ≡ fingerprint_of (row_words rows.now) point }
+pub fn fingerprint_rows(rows: &[u8], point: u64) -> Result<u64, Refusal>
+    ensures { result ≡ answer (row_words rows.now) point }
 {
-    let mut words = [0u64; LIMIT];
-    let Packed::Words(count) = coach::pack_rows(rows, &mut words) else {
-        return Word::Refused(Refusal::TooManyWords);
+    // Kept: an array with the count that `pack_rows` answers: the libraries have no heap.
+    let mut words = [0; LIMIT];
+    let Ok(count) = coach::pack_rows(rows, &mut words) else {
+        return Err(Refusal::TooManyWords);
     };
-    match fingerprint::fingerprint(&words[..count], point) {
-        Print::Value(sum) => Word::Value(sum),
-        Print::TooManyWords => Word::Refused(Refusal::TooManyWords),
-    }
+    fingerprint::fingerprint(&words[..count], point)
 }

@@ -7,196 +7,93 @@
 // whole map has been read and its length tested.
 #![tactic(auto)]
 
-ghost use Rattle.std.specs.Prelude.{◌≡◌, ◌≤◌, length, take};
-
-use coach::{Hex, Packed};
+use answers::Refusal;
 use matrix::ByteMatrix;
+use seat_lines::{LIMIT, ROWS, fingerprint_rows, row_line};
 use std::env::FillError;
 use std::io;
 use std::io::Read;
 use std::rt::Env;
 
-// The rows of 4,096 words.
-const ROWS: usize = 32768;
-
-fn say(rt: &impl Print, text: &[u8]) -> io::Result<()> {
-    rt.write_all(text)
-}
-
 // Whether there is an argument i, of any length. Argument 0 is the program's name.
 fn is_given(rt: &impl Env, i: usize) -> bool {
-    let mut text = [0u8; 1];
-    match rt.arg(i, &mut text) {
-        Ok(_) => true,
-        Err(FillError::TooLong) => true,
-        Err(FillError::NotPresent) => false,
-    }
+    !matches!(rt.arg(i, &mut []), Err(FillError::NotPresent))
 }
 
-// Argument i as a number.
-fn argument(rt: &impl Env, i: usize) -> Hex {
-    let mut text = [0u8; 4096];
-    let Ok(n) = rt.arg(i, &mut text) else {
-        return Hex::Bad;
-    };
-    coach::parse_hex(&text[..n])
+// Argument i as a number, which has at most sixteen digits.
+fn argument(rt: &impl Env, i: usize) -> Option<u64> {
+    // Kept: std's `arg` fills a buffer and answers how much.
+    let mut text = [0; 16];
+    let n = rt.arg(i, &mut text).ok()?;
+    hexadecimal::parse_hex(&text[..n])
 }
 
-// A digit of a row's number, or a blank before its first digit.
-fn digit(number: u32, place: u32) -> u8 {
-    if number < place && place > 1 {
-        return b' ';
-    }
-    if place == 0 {
-        return b' ';
-    }
-    b'0' + (number / place % 10) as u8
-}
-
-// Writes "    1  #..# ....   .... #..#": the row's number, its seats before and after, with the aisle between seats 3 and 4.
-fn show_row(rt: &impl Print, number: u32, before: u8, after: u8) -> io::Result<()> {
-    let b = coach::draw(before);
-    let a = coach::draw(after);
-    let line = [
-        digit(number, 10000),
-        digit(number, 1000),
-        digit(number, 100),
-        digit(number, 10),
-        digit(number, 1),
-        b' ',
-        b' ',
-        b[0],
-        b[1],
-        b[2],
-        b[3],
-        b' ',
-        b[4],
-        b[5],
-        b[6],
-        b[7],
-        b' ',
-        b' ',
-        b' ',
-        a[0],
-        a[1],
-        a[2],
-        a[3],
-        b' ',
-        a[4],
-        a[5],
-        a[6],
-        a[7],
-        b'\n',
-    ];
-    say(rt, &line)
-}
-
-fn show_rows(rt: &impl Print, before: &[u8], after: &[u8]) -> io::Result<()> {
-    say(rt, b"  row  before      after\n")?;
-    let mut i = 0usize;
-    let mut number = 1u32;
-    while i < before.len() && i < after.len() && i < ROWS {
-        show_row(rt, number, before[i], after[i])?;
-        number = std::num::wrapping_add_u32(number, 1);
-        i += 1;
-    }
-    Ok(())
-}
-
-// The fingerprint of a map's rows, eight rows a word.
-fn print_of(rows: &[u8], point: u64) -> fingerprint::Print {
-    let mut words = [0u64; 4096];
-    let packed = coach::pack_rows(rows, &mut words);
-    let Packed::Words(n) = packed else {
-        return fingerprint::Print::TooManyWords;
-    };
-    if n > 4096 {
-        return fingerprint::Print::TooManyWords;
-    }
-    fingerprint::fingerprint(&words[..n], point)
-}
-
-fn too_long(rt: &impl Print) -> io::Result<()> {
-    say(
-        rt,
-        b"refusal 6: the map has more than 32768 rows, and a fingerprint is of at most 4096 words of eight rows\n",
+fn too_long(rt: &impl Print, why: Refusal) -> io::Result<()> {
+    println!(rt;
+        "{why}: the map has more than {ROWS} rows, and a fingerprint is of at most {LIMIT} words of eight rows"
     )
 }
 
-fn show_print(rt: &impl Print, label: &[u8], print: fingerprint::Print) -> io::Result<()> {
+fn show_print(rt: &impl Print, when: &str, print: Result<u64, Refusal>) -> io::Result<()> {
     match print {
-        fingerprint::Print::Value(value) => {
-            say(rt, label)?;
-            println!(rt; "{value:016x}")
-        }
-        fingerprint::Print::TooManyWords => too_long(rt),
+        Ok(value) => println!(rt; "fingerprint {when:<6}  {value:016x}"),
+        Err(why) => too_long(rt, why),
     }
 }
 
-// The whole job, on a map that is in `before`; `after` is a copy of it.
-fn show(
-    rt: &impl Print,
-    map: ByteMatrix,
-    point: u64,
-    before: &[u8],
-    after: &mut [u8],
-) -> io::Result<()> {
-    map.apply_slice(after);
-    show_rows(rt, before, after)?;
-    show_print(rt, b"fingerprint before  ", print_of(before, point))?;
-    show_print(rt, b"fingerprint after   ", print_of(after, point))
+// The whole job: shows the rows, swaps each, and shows both fingerprints.
+fn show(rt: &impl Print, swap: ByteMatrix, point: u64, rows: &mut [u8]) -> io::Result<()> {
+    let before = fingerprint_rows(rows, point);
+    println!(rt; "  row  before      after")?;
+    for (i, row) in rows.iter_mut().enumerate() {
+        let after = swap.apply(*row);
+        rt.write_all(&row_line(i + 1, *row, after))?;
+        *row = after;
+    }
+    show_print(rt, "before", before)?;
+    show_print(rt, "after", fingerprint_rows(rows, point))
 }
 
-// Reads until `rows` is full, the input ends or a read fails, and answers how many bytes it put at the start of `rows`.
-fn read_full(input: &mut impl Read, rows: &mut [u8]) -> usize
-    ensures { (result ≤ length rows.new) × (result ≡ length (take result rows.new)) }
-{
+// Reads until `rows` is full, the input ends or a read fails, and answers the rows that were read.
+fn read_rows<'a>(input: &mut impl Read, rows: &'a mut [u8]) -> &'a mut [u8] {
     let mut done = 0;
+    // Kept: std's `read_exact` says nothing of the rows that came before the input ended, and `read_to_end` needs a heap.
     while done < rows.len() {
-        let Ok(n) = input.read(&mut rows[done..]) else {
-            break;
-        };
-        if n == 0 {
-            break;
+        match input.read(&mut rows[done..]) {
+            Ok(n @ 1..) => done += n,
+            _ => break,
         }
-        done += n;
     }
-    done
+    &mut rows[..done]
 }
 
 // Reads the map. Where nothing more comes after it, it is shown.
-fn read_and_show(rt: &(impl Input + Print), map: ByteMatrix, point: u64) -> io::Result<()> {
+fn read_and_show(rt: &(impl Input + Print), swap: ByteMatrix, point: u64) -> io::Result<()> {
     let mut input = rt.reader();
-    let mut before = [0u8; 32768];
-    let n = read_full(&mut input, &mut before);
-    let mut extra = [0u8; 1];
-    match input.read(&mut extra) {
-        Ok(0) => {
-            let mut after = before;
-            show(rt, map, point, &before[..n], &mut after[..n])
-        }
-        Ok(_) if n == ROWS => too_long(rt),
-        _ => say(rt, b"seats: the map could not be read to its end\n"),
+    // Kept: an array and no Vec: README says that `seats` allocates nothing, so that it cannot run out of memory.
+    let mut map = [0; ROWS];
+    let rows = read_rows(&mut input, &mut map);
+    match input.read(&mut [0]) {
+        Ok(0) => show(rt, swap, point, rows),
+        Ok(_) if rows.len() == ROWS => too_long(rt, Refusal::TooManyWords),
+        _ => println!(rt; "seats: the map could not be read to its end"),
     }
 }
 
 fn main(rt: HostRuntime) -> io::Result<()> {
     if !is_given(&rt, 2) || is_given(&rt, 3) {
-        return say(
-            &rt,
-            b"usage: seats QUADWORD POINT < MAP   (both in hexadecimal; the map has one byte a row)\n",
+        return println!(rt;
+            "usage: seats QUADWORD POINT < MAP   (both in hexadecimal; the map has one byte a row)"
         );
     }
-    let Hex::Value(quadword) = argument(&rt, 1) else {
-        return say(
-            &rt,
-            b"seats: the first argument, the swap's quadword, must be 1 to 16 hexadecimal digits\n",
+    let Some(quadword) = argument(&rt, 1) else {
+        return println!(rt;
+            "seats: the first argument, the swap's quadword, must be 1 to 16 hexadecimal digits"
         );
     };
-    let Hex::Value(point) = argument(&rt, 2) else {
-        return say(
-            &rt,
-            b"seats: the second argument, the fingerprint's point, must be 1 to 16 hexadecimal digits\n",
+    let Some(point) = argument(&rt, 2) else {
+        return println!(rt;
+            "seats: the second argument, the fingerprint's point, must be 1 to 16 hexadecimal digits"
         );
     };
     read_and_show(&rt, ByteMatrix::from_quadword(quadword), point)

@@ -1,23 +1,17 @@
 -- Refusal 2 is given exactly where the lengths differ; and empty lists are swept, with nothing to change.
-use mathlib.Core.Path.{◌≡◌, refl}
-use mathlib.Core.List.{List, []}
-use mathlib.Core.Logic.Iff
-use mathlib.Core.Logic.{◌↔◌, ◌≢◌}
-use Prim.Native.Nat.{ℕ}
-use native.Mathlib.Omega.{arith}
-use borrow.Author.Tests.{eqb-false, ne_eqb}
-use lib.Dec.{eqb}
-use lib.ListN.{length}
+use Rattle.std.proofs.Common.{◌≡◌, refl, List, [], ℕ, ◌≢◌, eqb, not, length, Ok}
 use Rattle.gf2.specs.Bits.{tab}
-use Rattle.gf2.proofs.Pick.{picks_second}
-use Rattle.sweeps.specs.Products.{number, answer, products}
-use Rattle.sweeps.specs.declared.Swept2.TheVariants.{Done}
+use Rattle.answers.specs.Answer.{Exactly, Accepts}
+use Rattle.answers.specs.declared.Refusal.TheVariants.{LengthsDiffer}
+use Rattle.answers.proofs.Refusals.{refuses, accepts_where, unequal, not_unequal}
+use Rattle.sweeps.specs.Products.{answer, products}
 
-pub mul_slice_refuses : (d s : List ℕ) → (number (answer d s) ≡ 2) ↔ (length d ≢ length s)
-mul_slice_refuses d s =
-    Iff.trans (picks_second number (eqb (length d) (length s)) _ _ (λ e. omega arith))
-    (eqb-false (length d) (length s), ne_eqb (length d) (length s))
+pub mul_slice_refuses : (d s : List ℕ) → Exactly LengthsDiffer (length d ≢ length s) (answer d s)
+mul_slice_refuses d s = refuses (not (eqb (length d) (length s))) LengthsDiffer tt (unequal (length d) (length s))
 
-pub mul_slice_empty : (answer [] [] ≡ Done) × (products [] [] ≡ [])
+pub mul_slice_accepts : (d s : List ℕ) → Accepts (length d ≡ length s) tt (answer d s)
+mul_slice_accepts d s = accepts_where (not (eqb (length d) (length s))) LengthsDiffer tt (not_unequal (length d) (length s))
+
+pub mul_slice_empty : (answer [] [] ≡ Ok tt) × (products [] [] ≡ [])
 unfolding tab
 mul_slice_empty = (refl, refl)

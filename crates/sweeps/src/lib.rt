@@ -6,36 +6,28 @@ ghost use Rattle.gf2.specs.Bits.{tab};
 ghost use Rattle.gf2.specs.Residue.{inv};
 ghost use Rattle.sweeps.specs.Products.{answer, products};
 
-// What a sweep over two lists answers: done, or refusal 2.
-#[derive(Clone, Copy)]
-pub enum Swept2 {
-    Done,
-    LengthsDiffer,
-}
+use answers::Refusal;
 
 // Each byte of `dst` times the byte of `src` at its place. Where the lengths differ, `dst` stays as it was.
-pub fn mul_slice(dst: &mut [u8], src: &[u8]) -> Swept2
+pub fn mul_slice(dst: &mut [u8], src: &[u8]) -> Result<(), Refusal>
     ensures answer { result ≡ answer dst.old src.now }
     ensures bytes { dst.new ≡ products dst.old src.now }
 {
     if dst.len() != src.len() {
-        return Swept2::LengthsDiffer;
+        return Err(Refusal::LengthsDiffer);
     }
-    let mut i = 0usize;
-    while i < dst.len() {
-        dst[i] = rijndael::mul_bytes(dst[i], src[i]);
-        i += 1;
+    // Kept: `src[i]` and no `zip`: tried, and of the elements nothing is known after an adapter of `iter_mut`.
+    for (i, x) in dst.iter_mut().enumerate() {
+        *x = rijndael::mul_bytes(*x, src[i]);
     }
-    Swept2::Done
+    Ok(())
 }
 
 // Each byte's inverse, with zero left alone.
 pub fn invert_slice(bytes: &mut [u8])
     ensures { bytes.new ≡ tab (length bytes.old) (λ k. inv 8 0x1b (get_or bytes.old k 0)) }
 {
-    let mut i = 0usize;
-    while i < bytes.len() {
-        bytes[i] = rijndael::invert_byte(bytes[i]);
-        i += 1;
+    for x in bytes.iter_mut() {
+        *x = rijndael::invert_byte(*x);
     }
 }

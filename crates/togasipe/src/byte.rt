@@ -3,14 +3,13 @@ ghost use Rattle.std.specs.Prelude.{◌≡◌};
 ghost use Rattle.gf2.specs.Poly.{◌⊕◌};
 ghost use Rattle.gf2.specs.Residue.{mul, sq, frob, inv, root};
 ghost use Rattle.spellings.specs.Kinds.{Kind, find};
-ghost use Rattle.rijndael.specs.Inverse.{inverse_of, quotient_of, number as number_inverse_8};
-ghost use Rattle.rijndael.specs.Node.{node_of, number as number_node};
-ghost use Rattle.rijndael.specs.Read.{read_of, number as number_read};
-ghost use Rattle.rijndael.specs.Write.{write_of, bytes_after, number as number_written};
+ghost use Rattle.answers.specs.Answer.{number, value_or, mapped};
+ghost use Rattle.answers.specs.Quotient.{inverse_of, quotient_of};
+ghost use Rattle.answers.specs.Lent.{read_of, room_for, written};
+ghost use Rattle.rijndael.specs.Node.{node_of};
 ghost use Rattle.towers.specs.Basis.{bmul, out as tower_image};
-ghost use Rattle.togasipe.specs.Left.{inverse_8_left, node, read_8_left};
 
-use crate::put::{put_inverse_8, put_node, put_read_8, written};
+use crate::put::put;
 use rijndael::Rijndael8b;
 
 // The sum.
@@ -18,9 +17,7 @@ use rijndael::Rijndael8b;
 pub extern "C" fn togasipe_rijndael_add(a: u8, b: u8) -> u8
     ensures { result ≡ a ⊕ b }
 {
-    Rijndael8b::from_byte(a)
-        .add(Rijndael8b::from_byte(b))
-        .to_byte()
+    (Rijndael8b::from_byte(a) + Rijndael8b::from_byte(b)).to_byte()
 }
 
 // The difference, which is the sum.
@@ -28,9 +25,7 @@ pub extern "C" fn togasipe_rijndael_add(a: u8, b: u8) -> u8
 pub extern "C" fn togasipe_rijndael_sub(a: u8, b: u8) -> u8
     ensures { result ≡ a ⊕ b }
 {
-    Rijndael8b::from_byte(a)
-        .sub(Rijndael8b::from_byte(b))
-        .to_byte()
+    (Rijndael8b::from_byte(a) - Rijndael8b::from_byte(b)).to_byte()
 }
 
 // The product.
@@ -38,9 +33,7 @@ pub extern "C" fn togasipe_rijndael_sub(a: u8, b: u8) -> u8
 pub extern "C" fn togasipe_rijndael_mul(a: u8, b: u8) -> u8
     ensures { result ≡ mul 8 0x1b a b }
 {
-    Rijndael8b::from_byte(a)
-        .mul(Rijndael8b::from_byte(b))
-        .to_byte()
+    (Rijndael8b::from_byte(a) * Rijndael8b::from_byte(b)).to_byte()
 }
 
 // The square.
@@ -78,28 +71,41 @@ pub extern "C" fn togasipe_rijndael_invert_or_zero(a: u8) -> u8
 // The inverse; refusal 1 for zero.
 #[unsafe(no_mangle)]
 pub extern "C" fn togasipe_rijndael_try_inverse(a: u8, out: &mut u8) -> u32
-    ensures answer { result ≡ number_inverse_8 (inverse_of a) }
-    ensures value { out.new ≡ inverse_8_left (inverse_of a) out.old }
+    ensures answer { result ≡ number (inverse_of 8 0x1b a) }
+    ensures value { out.new ≡ value_or (inverse_of 8 0x1b a) out.old }
 {
-    put_inverse_8(Rijndael8b::from_byte(a).try_inverse(), out)
+    put(
+        Rijndael8b::from_byte(a)
+            .try_inverse()
+            .map(Rijndael8b::to_byte),
+        out,
+    )
 }
 
 // a divided by b; refusal 1 where b is zero.
 #[unsafe(no_mangle)]
 pub extern "C" fn togasipe_rijndael_div(a: u8, b: u8, out: &mut u8) -> u32
-    ensures answer { result ≡ number_inverse_8 (quotient_of a b) }
-    ensures value { out.new ≡ inverse_8_left (quotient_of a b) out.old }
+    ensures answer { result ≡ number (quotient_of 8 0x1b a b) }
+    ensures value { out.new ≡ value_or (quotient_of 8 0x1b a b) out.old }
 {
-    put_inverse_8(Rijndael8b::from_byte(a).div(Rijndael8b::from_byte(b)), out)
+    put(
+        Rijndael8b::from_byte(a)
+            .div(Rijndael8b::from_byte(b))
+            .map(Rijndael8b::to_byte),
+        out,
+    )
 }
 
 // Node i, the byte i; refusal 3 from 256 up.
 #[unsafe(no_mangle)]
 pub extern "C" fn togasipe_rijndael_interpolation_node(i: usize, out: &mut u8) -> u32
-    ensures answer { result ≡ number_node (node_of i) }
-    ensures value { out.new ≡ node (node_of i) out.old }
+    ensures answer { result ≡ number (node_of i) }
+    ensures value { out.new ≡ value_or (mapped (λ e. e.0) (node_of i)) out.old }
 {
-    put_node(Rijndael8b::interpolation_node(i), out)
+    put(
+        Rijndael8b::interpolation_node(i).map(Rijndael8b::to_byte),
+        out,
+    )
 }
 
 // The quadword of the map that multiplies by a.
@@ -121,17 +127,17 @@ pub extern "C" fn togasipe_rijndael_mul_alpha(a: u8) -> u8
 // The element at the start of the bytes; refusal 4 where there is none.
 #[unsafe(no_mangle)]
 pub extern "C" fn togasipe_rijndael_read(s: &[u8], out: &mut u8) -> u32
-    ensures answer { result ≡ number_read (read_of s.now) }
-    ensures value { out.new ≡ read_8_left (read_of s.now) out.old }
+    ensures answer { result ≡ number (read_of 1 s.now) }
+    ensures value { out.new ≡ value_or (read_of 1 s.now) out.old }
 {
-    put_read_8(Rijndael8b::read(s), out)
+    put(Rijndael8b::read(s).map(Rijndael8b::to_byte), out)
 }
 
 // Writes the element over the first byte; refusal 4 where there is none.
 #[unsafe(no_mangle)]
 pub extern "C" fn togasipe_rijndael_write(a: u8, d: &mut [u8]) -> u32
-    ensures answer { result ≡ number_written (write_of d.old) }
-    ensures bytes { d.new ≡ bytes_after a d.old }
+    ensures answer { result ≡ number (room_for 1 d.old) }
+    ensures bytes { d.new ≡ written 1 d.old a }
 {
-    written(Rijndael8b::from_byte(a).write(d))
+    answers::number(Rijndael8b::from_byte(a).write(d))
 }

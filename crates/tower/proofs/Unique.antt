@@ -5,10 +5,10 @@ use Rattle.rijndael.specs.Element.{element}
 use Rattle.tower.specs.declared.BinaryField8.{BinaryField8}
 use Rattle.tower.proofs.BinaryField8.from_repr.Reads as from-repr
 use Rattle.tower.proofs.BinaryField8.to_repr.Reads as to-repr
-use Rattle.tower.proofs.BinaryField8.add.Reads as add
-use Rattle.tower.proofs.BinaryField8.mul.Reads as mul
-use Rattle.tower.proofs.BinaryField8.to_rijndael.Reads as to-rijndael
-use Rattle.tower.proofs.BinaryField8.from_rijndael.Reads as from-rijndael
+use Rattle.tower.proofs.BinaryField8Add.add.Reads as add
+use Rattle.tower.proofs.BinaryField8Mul.mul.Reads as mul
+use Rattle.tower.proofs.Rijndael8bFromBinaryField8.from.Reads as to-rijndael
+use Rattle.tower.proofs.BinaryField8FromRijndael8b.from.Reads as from-rijndael
 use Rattle.tower.proofs.tower_images.Reads as tower-images
 use Rattle.tower.proofs.mul_alpha.Reads as mul-alpha
 use Rattle.tower.proofs.generator.Reads as generator

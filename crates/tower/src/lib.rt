@@ -2,15 +2,17 @@
 // change of basis to the byte field and back.
 #![tactic(auto)]
 
-ghost use Rattle.std.specs.Prelude.{◌≡◌, ◌≤◌, ◌<◌};
+ghost use Rattle.std.specs.Prelude.{◌≡◌, ◌^◌, ◌<◌};
 ghost use Rattle.gf2.specs.Poly.{◌⊕◌};
 ghost use Rattle.towers.specs.Level.{size, lo, hi, join};
 ghost use Rattle.towers.specs.Mul.{talpha, tmul};
 ghost use Rattle.towers.specs.Basis.{bmul, out_images, out, into_images, into};
 ghost use Rattle.spellings.specs.Kinds.{Kind, turn};
+ghost use Rattle.tower.specs.Split.{index, level};
 
 use matrix::ByteMatrix;
 use rijndael::Rijndael8b;
+use std::ops::{Add, Mul};
 
 // Where X0, X1 and X2 go in the byte field: each to the smallest nonzero byte that solves its relation over the byte
 // before, X0's over 1. A search from 1 upwards found them.
@@ -22,68 +24,86 @@ const FROM_TOWER: u64 = 0xf9c0_f606_1af2_4882;
 // The map back, as a matrix.
 const INTO_TOWER: u64 = 0xe32c_24ee_d2dc_aeac;
 
-// The halves of a value of level k + 1, and the value with given halves.
-fn low(a: u8, k: u32) -> u8
-    requires { k < 3 }
-    ensures { result ≡ lo k a }
-{
-    let half: u32 = 1 << k;
-    a & ((1 << half) - 1)
+// Where a value splits: at Xk, into two halves of 2^k bits, as x + y Xk. A single bit does not split.
+#[derive(Clone, Copy)]
+enum Split {
+    X0,
+    X1,
+    X2,
 }
 
-fn high(a: u8, k: u32) -> u8
-    requires { k < 3 }
-    ensures { result ≡ hi k a }
-{
-    let half: u32 = 1 << k;
-    low(a >> half, k)
-}
-
-fn joined(x: u8, y: u8, k: u32) -> u8
-    requires { (k < 3) × (y < size k) }
-    ensures { result ≡ join k x y }
-{
-    let half: u32 = 1 << k;
-    (y << half) ^ x
-}
-
-// X(level - 1) times a.
-fn tower_alpha(a: u8, level: u32) -> u8
-    requires { level ≤ 3 }
-    ensures { result ≡ talpha level a }
-{
-    if level == 0 {
-        a & 1
-    } else {
-        let k = level - 1;
-        let a1 = high(a, k);
-        joined(a1, low(a, k) ^ tower_alpha(a1, k), k)
+impl Split {
+    // The width of a half.
+    fn width(self) -> u32
+        ensures { result ≡ 2 ^ index self }
+    {
+        1 << (self as u32)
     }
+
+    // Where a half splits in turn.
+    fn below(self) -> Option<Self>
+        ensures { level result ≡ index self }
+    {
+        match self {
+            Self::X0 => None,
+            Self::X1 => Some(Self::X0),
+            Self::X2 => Some(Self::X1),
+        }
+    }
+
+    // The halves of a value, and the value with given halves.
+    fn low(self, a: u8) -> u8
+        ensures { result ≡ lo (index self) a }
+    {
+        a & ((1 << self.width()) - 1)
+    }
+
+    fn high(self, a: u8) -> u8
+        ensures { result ≡ hi (index self) a }
+    {
+        self.low(a >> self.width())
+    }
+
+    fn joined(self, x: u8, y: u8) -> u8
+        requires { y < size (index self) }
+        ensures { result ≡ join (index self) x y }
+    {
+        (y << self.width()) ^ x
+    }
+}
+
+// The topmost generator times a, a value that splits there; a single bit is times 1.
+fn tower_alpha(a: u8, top: Option<Split>) -> u8
+    ensures { result ≡ talpha (level top) a }
+{
+    let Some(k) = top else {
+        return a & 1;
+    };
+    let a1 = k.high(a);
+    k.joined(a1, k.low(a) ^ tower_alpha(a1, k.below()))
 }
 
 // The product splits its factors at the topmost generator, down to single bits. Of the four products of halves the two
 // mixed ones are needed as a sum only, which one product of sums gives.
-fn tower_mul(a: u8, b: u8, level: u32) -> u8
-    requires { level ≤ 3 }
-    ensures { result ≡ tmul level a b }
+fn tower_mul(a: u8, b: u8, top: Option<Split>) -> u8
+    ensures { result ≡ tmul (level top) a b }
 {
-    if level == 0 {
-        a & b & 1
-    } else {
-        let k = level - 1;
-        let a0 = low(a, k);
-        let a1 = high(a, k);
-        let b0 = low(b, k);
-        let b1 = high(b, k);
-        let z0 = tower_mul(a0, b0, k);
-        let z2 = tower_mul(a1, b1, k);
-        let z1 = tower_mul(a0 ^ a1, b0 ^ b1, k) ^ z0 ^ z2;
-        joined(z0 ^ z2, z1 ^ tower_alpha(z2, k), k)
-    }
+    let Some(k) = top else {
+        return a & b & 1;
+    };
+    let a0 = k.low(a);
+    let a1 = k.high(a);
+    let b0 = k.low(b);
+    let b1 = k.high(b);
+    let half = k.below();
+    let z0 = tower_mul(a0, b0, half);
+    let z2 = tower_mul(a1, b1, half);
+    let z1 = tower_mul(a0 ^ a1, b0 ^ b1, half) ^ z0 ^ z2;
+    k.joined(z0 ^ z2, z1 ^ tower_alpha(z2, half))
 }
 
 // A byte of the tower. Bit j is the coefficient of the product of the generators that the bits of j name.
-#[derive(Clone, Copy)]
+#[derive(Clone, Copy, Debug, PartialEq, Eq)]
 pub struct BinaryField8(u8);
 
 impl BinaryField8 {
@@ -92,6 +112,7 @@ impl BinaryField8 {
     pub const ONE: Self = Self(1);
 
     // Every byte is an element.
+    // Kept: bits, as `f64::from_bits`: the number 2 is 1 + 1, that is 0, in this field, and `From<u8>` would say so.
     pub fn from_repr(byte: u8) -> Self
         ensures { result.0 ≡ byte }
     {
@@ -103,30 +124,43 @@ impl BinaryField8 {
     {
         self.0
     }
+}
 
-    pub fn add(self, other: Self) -> Self
-        ensures { result.0 ≡ self.0 ⊕ other.0 }
-    {
+// Kept: beside the byte field's sum; what a macro or a trait for both would take is longer than this line.
+impl Add for BinaryField8 {
+    type Output = Self;
+
+    ghost add_gives = { λ a b c. c.0 ≡ a.0 ⊕ b.0 };
+
+    fn add(self, other: Self) -> Self {
         Self(self.0 ^ other.0)
     }
+}
 
-    pub fn mul(self, other: Self) -> Self
-        ensures { result.0 ≡ tmul 3 self.0 other.0 }
-    {
-        Self(tower_mul(self.0, other.0, 3))
+impl Mul for BinaryField8 {
+    type Output = Self;
+
+    ghost mul_gives = { λ a b c. c.0 ≡ tmul 3 a.0 b.0 };
+
+    fn mul(self, other: Self) -> Self {
+        Self(tower_mul(self.0, other.0, Some(Split::X2)))
     }
+}
 
-    // The same field element as a byte of the byte field.
-    pub fn to_rijndael(self) -> Rijndael8b
-        ensures { result.0 ≡ out self.0 }
-    {
-        Rijndael8b::from_byte(from_tower().apply(self.0))
+// The same field element as a byte of the byte field.
+impl From<BinaryField8> for Rijndael8b {
+    ghost from_gives = { λ x y. y.0 ≡ out x.0 };
+
+    fn from(x: BinaryField8) -> Self {
+        Self::from_byte(from_tower().apply(x.0))
     }
+}
 
-    // The same field element as a byte of the tower.
-    pub fn from_rijndael(x: Rijndael8b) -> Self
-        ensures { result.0 ≡ into x.0 }
-    {
+// The same field element as a byte of the tower.
+impl From<Rijndael8b> for BinaryField8 {
+    ghost from_gives = { λ x y. y.0 ≡ into x.0 };
+
+    fn from(x: Rijndael8b) -> Self {
         Self(into_tower().apply(x.to_byte()))
     }
 }
@@ -145,16 +179,17 @@ fn one() -> BinaryField8
 }
 
 // The two changes of basis undo one another, for every byte. Nothing calls these: they are there for their contracts.
+// Kept: each says the theorem of its own two types, as in `matrix`.
 fn to_rijndael_and_back(x: BinaryField8) -> BinaryField8
     ensures { result ≡ x }
 {
-    BinaryField8::from_rijndael(x.to_rijndael())
+    BinaryField8::from(Rijndael8b::from(x))
 }
 
 fn from_rijndael_and_back(x: Rijndael8b) -> Rijndael8b
     ensures { result ≡ x }
 {
-    BinaryField8::from_rijndael(x).to_rijndael()
+    Rijndael8b::from(BinaryField8::from(x))
 }
 
 // Where the eight bits of a tower byte go: entry j is the image of the product of the generators that the bits of j name.
@@ -163,11 +198,9 @@ pub fn tower_images() -> [u8; 8]
     ensures { result ≡ out_images }
 {
     let mut images = [1u8; 8];
-    let mut j = 1usize;
-    while j < 8 {
-        let lowest = usize::trailing_zeros(j) as usize;
+    for j in 1usize..8 {
+        let lowest = j.trailing_zeros() as usize;
         images[j] = rijndael::mul_bytes(XI[lowest], images[j & (j - 1)]);
-        j += 1;
     }
     images
 }

@@ -1,4 +1,3 @@
-pub mod Bounds
 pub mod Value
 pub mod Compact
 pub mod Rounds

@@ -1,9 +1,10 @@
 -- Words read from the other end.
-use Rattle.std.proofs.Common.{◌≡◌, ℕ, zero, suc, ◌+◌, ◌-◌, ◌*◌, ◌/◌, ◌%◌, ◌^◌, ◌<◌, ◌≤◌, ◌⊎◌, sym, refl, ap, ◌∙◌, ap₂, inl, inr, le_refl, lt_of_lt_of_le, le_of_suc-le-suc, not-suc-le-zero, add-suc, mul_assoc, mul_comm, suc-add, eq-or-lt_of_le, one-mul, zero-add, zero-mul, arith, lit<, pow_mono, pow-add}
+use Rattle.std.proofs.Common.{◌≡◌, ℕ, zero, suc, ◌+◌, ◌-◌, ◌*◌, ◌/◌, ◌%◌, ◌^◌, ◌<◌, ◌≤◌, ◌⊎◌, sym, refl, ap, ◌∙◌, ap₂, inl, inr, le_refl, lt_of_lt_of_le, le_of_suc-le-suc, not-suc-le-zero, add-suc, mul_assoc, mul_comm, suc-add, eq-or-lt_of_le, one-mul, zero-add, zero-mul, arith, lit<, pow_mono, pow-add, pow-suc}
 use native.Mathlib.Nat.{le-suc}
 use lib.Arith.{lt-one}
-use lib.Bits.{xor_lt, xor_zero_r}
+use lib.Bits.{xor_lt, xor_shifted, xor_zero_r}
 use lib.Pow.{pow-lt}
+use Rattle.std.specs.Int.{reverse_bits_onto}
 use Rattle.gf2.specs.Poly.{◌⊕◌, coef, cmul}
 use Rattle.words.specs.Words.{rev}
 use Rattle.gf2.proofs.Xor.{bit_elim, bit-lt, xor_half, xor-bit, xor_medial}
@@ -89,3 +90,18 @@ rev-cmul (suc m) n a b ha hb =
     (rev-cmul m n (a / 2) b (half_lt (suc m) ha) hb
     ∙ sym (ap (λ (k : ℕ). rev (suc k) (cmul (a / 2) b * 2)) (suc-add m n) ∙ rev_dbl (suc (m + n)) (cmul (a / 2) b)))
     ∙ sym (ap (rev (suc (suc m + n))) (cmul_step a b) ∙ rev-xor (suc (suc m + n)) (a % 2 * b) (cmul (a / 2) b * 2))
+
+-- ---- std's reversal: the lowest bit first, each below those before it
+
+onto-rev : (n a b : ℕ) → reverse_bits_onto n a b ≡ b * 2 ^ n + rev n a
+unfolding rev reverse_bits_onto
+onto-rev zero a b = omega arith
+onto-rev (suc n) a b =
+    onto-rev n (a / 2) (b * 2 + a % 2) ∙ turn (rev n (a / 2))
+    ∙ ap (λ (x : ℕ). b * 2 ^ suc n + x) (sym (xor_shifted (a % 2) n (rev n (a / 2)) (rev-lt n (a / 2))))
+  where
+    turn : (x : ℕ) → (b * 2 + a % 2) * 2 ^ n + x ≡ b * 2 ^ suc n + (a % 2 * 2 ^ n + x)
+    turn x = grind (arith, pow-suc)
+
+pub reverse_bits-rev : (n a : ℕ) → reverse_bits_onto n a 0 ≡ rev n a
+reverse_bits-rev n a = onto-rev n a 0 ∙ omega arith

@@ -48,5 +48,19 @@ limbs-join h l a b = ap limbs (sym (value-xor (pair l h) b)) ∙ limbs-value (pa
 pub limbs-xor : (a b : ℕ) → limbs (a ⊕ b) ≡ add (limbs a) (limbs b)
 limbs-xor a b = ap₂ pair (xor_mod a b 64) (ap (λ (x : ℕ). x % 2 ^ 64) (xor_shr a b 64) ∙ xor_mod (a / 2 ^ 64) (b / 2 ^ 64) 64)
 
+-- the limbs of the sum of two numbers of 128 bits
+pub xor-limbs : (a b : Limbs) → a.low < 2 ^ 64 → a.high < 2 ^ 64 → b.low < 2 ^ 64 → b.high < 2 ^ 64
+    → limbs (value a ⊕ value b) ≡ add a b
+xor-limbs a b a₀ a₁ b₀ b₁ = limbs-xor (value a) (value b) ∙ ap₂ add (limbs-value a a₀ a₁) (limbs-value b b₀ b₁)
+
+limbs_again : (n : ℕ) → limbs (value (limbs n)) ≡ limbs n
+limbs_again n = limbs-value (limbs n) (limbs_low_lt n) (limbs_high_lt n)
+
+-- of any two numbers, from their limbs
+pub limbs-sum : (a b : ℕ) {l m : Limbs} → l ≡ limbs a → m ≡ limbs b → limbs (value l ⊕ value m) ≡ limbs (a ⊕ b)
+limbs-sum a b {l} {m} p q =
+    ap₂ (λ (x y : Limbs). limbs (value x ⊕ value y)) p q ∙ limbs-xor (value (limbs a)) (value (limbs b))
+    ∙ ap₂ add (limbs_again a) (limbs_again b) ∙ sym (limbs-xor a b)
+
 pub value-add : (a b : Limbs) → a.low < 2 ^ 64 → b.low < 2 ^ 64 → value (add a b) ≡ value a ⊕ value b
 value-add a b ha hb = sym (xor_block 64 a.high b.high a.low b.low ha hb)

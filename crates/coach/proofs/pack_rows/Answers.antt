@@ -1,42 +1,35 @@
 -- `coach::pack_rows` meets its contract: after i turns the first i words are the rows', and the others as they were.
 -- Assumes nothing.
-use mathlib.Core.Path.{◌≡◌, sym}
-use Prim.Native.Nat.{◌<◌}
-use lib.ListN.{length}
-use native.Mathlib.Omega.{arith}
-use Rattle.gf2.proofs.Sweep.{swept_none, swept_turn}
-use Rattle.coach.specs.Rows.{words_for_rows}
-use Rattle.coach.proofs.Packing.{packed_short, packed_done}
-use borrow.Author.Rules.{rules}
+use Rattle.std.proofs.Common.{◌≡◌, ◌∙◌, ap, arith, ℕ, min, ◌+◌, ◌*◌, ◌<◌, length, length-drop, drop, take, drop-drop, List}
+use Rattle.gf2.proofs.Sweep.{swept_turn}
+use Rattle.coach.specs.Rows.{row_word_of, words_for_rows}
+use Rattle.coach.proofs.Packing.{cut, row_word_taken, packed_done}
 use Rattle.coach.proofs.pack_rows.Goals as goal
-
-pub returns-then-count-words : goal.returns-then-count-words
-returns-then-count-words c =
-    let a = c.args in
-    let n = c.words_for-count in
-    let h : length a.words.now < words_for_rows (length a.rows.now) = omega (arith, n.ensures) in
-    let e = packed_short a.rows.now a.words.now h in
-    record { answer = sym e.0; words = sym e.1 }
-
-pub loop-i-init : goal.loop-i-init
-loop-i-init c = (search rules, swept_none)
-
-pub row_word-requires : goal.row_word-requires
-row_word-requires c = omega (arith, c.words_for-count.ensures)
-
-pub bounds-words-i : goal.bounds-words-i
-bounds-words-i c = omega (arith, c.loop-i.invariant.1.filled.size)
 
 pub loop-i-preserved : goal.loop-i-preserved
 loop-i-preserved c =
     let l = c.loop-i in
-    (omega arith, swept_turn (omega (arith, l.invariant.1.filled.size)) l.invariant.1 c.row_word.ensures)
+    let n = l.i-iterator.count in
+    let rows = c.args.rows.now in
+    let some = c.in-Some.ensures.steps in
+    let left : length l.i-iterator.iter.rest.now ≡ length (drop (8 * n) rows) = ap length l.invariant.1 in
+    let more : 8 * n < length rows = omega (arith, length-drop (8 * n) rows) in
+    let parts = cut 8 _ _ _ some.0.1.0 (some.0.1.1 ∙ ap (λ (k : ℕ). min k (length l.i-iterator.iter.rest.now)) l.invariant.0) in
+    let word : c.row_word.result ≡ row_word_of rows (8 * n) =
+    c.row_word.ensures ∙ ap (λ (s : List ℕ). row_word_of s 0) (parts.0 ∙ ap (take 8) l.invariant.1) ∙ row_word_taken rows (8 * n) in
+    let next : 8 * n + 8 ≡ 8 * c.next.new.self.count = omega (arith, some.2) in (
+      some.0.0 ∙ l.invariant.0,
+      parts.1 ∙ ap (drop 8) l.invariant.1 ∙ drop-drop 8 (8 * n) rows ∙ ap (λ (k : ℕ). drop k rows) next,
+      omega (arith, some.2),
+      rw (some.1, some.2) (swept_turn (omega (arith, c.div_ceil-count.ensures)) l.invariant.3 word),
+    )
 
-pub returns : goal.returns
-returns c =
+pub returns-clause-words : goal.returns-clause-words
+returns-clause-words c =
     let l = c.loop-i in
-    let a = c.args in
-    let n = c.words_for-count in
-    let e : l.i ≡ n.result = omega arith in
-    let d = packed_done a.rows.now a.words.now n.ensures (omega arith) (rw e at l.invariant.1) in
-    record { answer = d.0; words = d.1 }
+    let none = c.in-None.ensures.steps in
+    let rows = c.args.rows.now in
+    let n = l.i-iterator.count in
+    let left : length l.i-iterator.iter.rest.now ≡ length (drop (8 * n) rows) = ap length l.invariant.1 in
+    let all : n ≡ words_for_rows (length rows) = omega (arith, length-drop (8 * n) rows, none) in
+    (packed_done rows c.args.words.now all (omega (arith, c.div_ceil-count.ensures)) l.invariant.3).1

@@ -1,22 +1,20 @@
 -- `endian::read_128` meets its contract: two words are the limbs of the 16 bytes' number. Assumes nothing.
-use mathlib.Core.Path.{ap, ap₂, ◌∙◌}
-use Prim.Native.Nat.{◌+◌}
-use borrow.Author.Tests.{le-leb, lt-leb}
-use lib.ListN.{drop}
-use lib.Seq.{get_or-drop}
+use Rattle.std.proofs.Common.{◌≡◌, ◌∙◌, refl, ap, ap₂, arith, ◌+◌, ◌-◌, length, length-drop, take, drop, take_all, get_or-drop, Ok}
+use Rattle.words.specs.Limbs.{limbs}
 use Rattle.words.proofs.Value.{pair}
-use Rattle.endian.specs.declared.Word128.TheVariants.{Value}
-use Rattle.endian.proofs.Bytes.{Bytes}
-use Rattle.endian.proofs.Place.{limbs-word_of}
+use Rattle.answers.specs.Answer.{mapped}
+use Rattle.answers.specs.Lent.{word_of, Bytes}
+use Rattle.endian.proofs.Readers.{read_value, read_tells}
+use Rattle.endian.proofs.Limbs.{limbs-word_of}
 use Rattle.endian.proofs.read_128.Goals as goal
-
-pub returns-then-s-lt16 : goal.returns-then-s-lt16
-returns-then-s-lt16 c = simp (lt-leb _ _ c.if-s-lt16.true)
 
 pub returns : goal.returns
 returns c =
     let s = c.args.s.now in
-    let byte : Bytes s = λ i. (c.shared_slice_known-1.given i).fits in
+    let byte : Bytes s = λ i. (c.type_inv.s i).fits in
     let more : Bytes (drop 8 s) = λ i. rw get_or-drop (byte (8 + i)) in
-    simp (le-leb _ _ c.if-s-lt16.false)
-    (ap Value (ap₂ pair c.word_at.ensures c.word_at-2.ensures ∙ limbs-word_of s byte more))
+    let low = read_tells 8 s c.in_ok-low.ensures in
+    let high = read_tells 8 (take (length s - 8) (drop 8 s)) c.in_ok-high.ensures in
+    let rest : take (length s - 8) (drop 8 s) ≡ drop 8 s = take_all (length s - 8) (drop 8 s) (omega (arith, length-drop 8 s)) in
+    ap Ok (ap₂ pair low.1 (high.1 ∙ ap (word_of 8) rest) ∙ limbs-word_of s byte more)
+    ∙ ap (mapped limbs) (read_value 16 s (omega (arith, high.0, ap length rest, length-drop 8 s)) refl)

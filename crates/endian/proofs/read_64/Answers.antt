@@ -1,11 +1,11 @@
--- `endian::read_64` meets its contract: each return by the test that led there. Assumes nothing.
-use mathlib.Core.Path.{ap}
-use borrow.Author.Tests.{le-leb, lt-leb}
-use Rattle.endian.specs.declared.Word64.TheVariants.{Value}
+-- `endian::read_64` meets its contract: std's number of the first 8 bytes is theirs. Assumes nothing.
+use Rattle.std.proofs.Common.{◌∙◌, ap}
+use Rattle.std.specs.Int.{from_le_bytes, w64}
+use Rattle.endian.proofs.Readers.{read_value}
+use Rattle.endian.proofs.Words.{from_le_bytes-first}
 use Rattle.endian.proofs.read_64.Goals as goal
 
-pub returns-then-s-lt8 : goal.returns-then-s-lt8
-returns-then-s-lt8 c = simp (lt-leb _ _ c.if-s-lt8.true)
-
 pub returns : goal.returns
-returns c = simp (le-leb _ _ c.if-s-lt8.false) (ap Value c.word_at.ensures)
+returns c =
+    let first = rw c.in_ok-bytes.ensures.ok_part at c.first_chunk.ensures.cases in
+    read_value 8 c.args.s.now first.enough (c.from_le_bytes.ensures ∙ ap (from_le_bytes w64) first.same ∙ from_le_bytes-first c.args.s.now)

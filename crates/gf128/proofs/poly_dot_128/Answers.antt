@@ -1,62 +1,51 @@
--- `gf128::poly_dot_128` meets its contract. The loop's invariant: the two halves are those of the sum of the products
--- passed. Assumes nothing.
-use mathlib.Core.Path.{◌≡◌, refl, sym, ap, ◌∙◌}
-use Prim.Native.Nat.{ℕ, ◌/◌}
-use native.Mathlib.Omega.{arith}
-use lib.ListN.{length}
+-- `gf128::poly_dot_128` meets its contract: after as many turns the two halves are those of the sum of as many products.
+-- Assumes nothing.
+use Rattle.std.proofs.Common.{rules, arith, ap, ap₂, ◌∙◌, ◌≡◌, ◌/◌, ℕ, length, Ok, eq-eqb}
+use Rattle.std.proofs.lemmas.List.{length_push}
+use Rattle.std.proofs.lemmas.Slice.Zip.{zip_turn, zip_end}
 use Rattle.gf2.specs.Poly.{xsum}
 use Rattle.gf2.specs.Residue.{dot}
 use Rattle.words.specs.Limbs.{limbs}
-use Rattle.gf128.specs.declared.Dot128.TheVariants.{Value}
+use Rattle.words.proofs.Value.{pair}
 use Rattle.gf128.specs.Answers.{element}
-use Rattle.gf128.proofs.Answers.{answer_differ, answer_odd, answer-value}
-use Rattle.gf128.proofs.Sums.{turn_low, turn_high, rem-products}
+use Rattle.gf128.proofs.Sums.{element-pair, turn_low, turn_high, rem-products}
 use Rattle.gf128.proofs.poly_dot_128.Goals as goal
 
-pub returns-then-a-b : goal.returns-then-a-b
-returns-then-a-b c = sym (answer_differ _ _ c.if-a-b.true)
-
-pub returns-then-a-ne0 : goal.returns-then-a-ne0
-returns-then-a-ne0 c = sym (answer_odd _ _ c.if-a-b.false c.if-a-ne0.true)
-
-pub loop-i-init : goal.loop-i-init
+pub loop-x-init : goal.loop-x-init
 unfolding xsum
-loop-i-init c = (omega arith, refl, refl)
+loop-x-init c = record {
+  low = ap₂ pair c.default-low.ensures.0 c.default-low.ensures.1;
+  high = ap₂ pair c.default-high.ensures.0 c.default-high.ensures.1;
+}
 
-pub element_at-requires : goal.element_at-requires
-element_at-requires c = omega arith
-
-pub element_at-requires-in-loop-i : goal.element_at-requires-in-loop-i
-element_at-requires-in-loop-i c = omega arith
-
-pub overflow_add-i : goal.overflow_add-i
-overflow_add-i c = omega arith
-
-pub loop-i-smaller : goal.loop-i-smaller
-loop-i-smaller c = omega arith
-
-pub loop-i-preserved : goal.loop-i-preserved
-loop-i-preserved c =
-    let l = c.loop-i in
-    let e = c.args in
-    let x = c.element_at in
-    let y = c.element_at-in-loop-i in
-    let p = c.wide_mul_128-product.ensures in (
-      omega arith,
-      c.add_128-low.ensures
-          ∙ turn_low e.a.now e.b.now l.i x.result y.result x.ensures y.ensures l.invariant.1 p.low,
-      c.add_128-high.ensures
-          ∙ turn_high e.a.now e.b.now l.i x.result y.result x.ensures y.ensures l.invariant.2 p.high,
-    )
+pub loop-x-preserved : goal.loop-x-preserved
+loop-x-preserved c =
+    let l = c.loop-x in
+    let a = c.args.a.now in
+    let b = c.args.b.now in
+    let n = length l.yielded in
+    let xs = c.as_chunks in
+    let ys = c.as_chunks-2 in
+    let t = zip_turn xs.result.0.now ys.result.0.now l.yielded c.into_iter-x-iterator.result _ c.next.new.self _ (search rules) (search rules) l.yielded_by _ c.in-Some.is c.next.ensures.steps in
+    let x = c.element.ensures ∙ element-pair a xs.ensures.front xs.ensures.front_len n t.0 (t.2 _) in
+    let y = c.element-in-loop-x.ensures ∙ element-pair b ys.ensures.front ys.ensures.front_len n t.1 (t.3 _) in
+    let p = c.wide_mul_128-product.ensures in
+    rw length_push
+    record {
+      low = c.bitxor-low.ensures ∙ turn_low a b n _ _ x y l.invariant.low p.low;
+      high = c.bitxor-high.ensures ∙ turn_high a b n _ _ x y l.invariant.high p.high;
+    }
 
 pub returns : goal.returns
 returns c =
+    let l = c.loop-x in
     let a = c.args.a.now in
     let b = c.args.b.now in
-    let i = c.loop-i.i in
-    let at-end : i ≡ length a / 2 = omega arith in
-    ap Value (c.reduce_128.ensures
-    ∙ rem-products a b (λ k. omega (arith, c.shared_slice_known-1.given k)) (λ k. omega (arith, c.shared_slice_known-2-1.given k))
-    i c.loop-i.invariant.1 c.loop-i.invariant.2
-    ∙ ap (λ (k : ℕ). limbs (dot 128 0x87 k (element a) (element b))) at-end)
-    ∙ sym (answer-value a b c.if-a-b.false c.if-a-ne0.false)
+    let xs = c.as_chunks in
+    let ys = c.as_chunks-2 in
+    let z = zip_end xs.result.0.now ys.result.0.now l.yielded c.into_iter-x-iterator.result _ c.next.new.self _ (search rules) (search rules) l.yielded_by c.in-None.is c.next.ensures.steps in
+    let n : length l.yielded ≡ length a / 2 = omega arith in
+    simp (eq-eqb _ _ c.if-a-b.false, eq-eqb _ _ c.if-a-ne0.false)
+    (ap Ok (c.reduce_128.ensures
+    ∙ rem-products a b (λ k. (c.type_inv.a k).fits) (λ k. (c.type_inv.b k).fits) (length l.yielded) l.invariant.low l.invariant.high
+    ∙ ap (λ (k : ℕ). limbs (dot 128 0x87 k (element a) (element b))) n))

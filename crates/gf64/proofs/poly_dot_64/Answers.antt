@@ -1,31 +1,35 @@
--- `gf64::poly_dot_64` meets its contract: after i turns the two limbs hold the sum of the first i products. Assumes nothing.
-use mathlib.Core.Path.{◌≡◌, ap, ◌∙◌}
-use native.Mathlib.Omega.{arith}
-use borrow.Author.Tests.{eq-eqb, ne_eqb}
-use lib.ListN.{length, get_or}
-use Rattle.gf64.specs.declared.Dot64.TheVariants.{Value}
+-- `gf64::poly_dot_64` meets its contract: after as many turns the limbs hold the sum of as many products. Assumes nothing.
+use Rattle.std.proofs.Common.{rules, arith, ◌≡◌, ap, ap₂, ◌∙◌, length, get_or, Ok, eq-eqb}
+use Rattle.std.proofs.lemmas.List.{length_push}
+use Rattle.std.proofs.lemmas.Slice.Zip.{zip_turn, zip_end}
+use Rattle.gf2.specs.Poly.{cmul}
+use Rattle.words.specs.Limbs.{limbs}
+use Rattle.words.proofs.Value.{pair}
 use Rattle.gf64.proofs.Dot.{products_none, products_turn, products-rem}
-use borrow.Author.Rules.{rules}
 use Rattle.gf64.proofs.poly_dot_64.Goals as goal
 
-pub returns-then-a-b : goal.returns-then-a-b
-returns-then-a-b c = simp (ne_eqb _ _ c.if-a-b.true)
+pub loop-x-init : goal.loop-x-init
+loop-x-init c = ap₂ pair c.default-sum.ensures.0 c.default-sum.ensures.1 ∙ products_none _ _
 
-pub loop-i-init : goal.loop-i-init
-loop-i-init c = (search rules, products_none _ _)
-
-pub loop-i-preserved : goal.loop-i-preserved
-loop-i-preserved c =
-    let l = c.loop-i in
-    let a = c.args in
-    (search rules, products_turn (λ k. get_or a.a.now k 0) (λ k. get_or a.b.now k 0) l.i l.invariant.1 c.clmul_64x64-product.ensures)
+pub loop-x-preserved : goal.loop-x-preserved
+loop-x-preserved c =
+    let l = c.loop-x in
+    let a = c.args.a.now in
+    let b = c.args.b.now in
+    let t = zip_turn a b l.yielded c.into_iter-x-iterator.result _ c.next.new.self _ (search rules) (search rules) l.yielded_by _ c.in-Some.is c.next.ensures.steps in
+    rw length_push
+    (c.bitxor-sum.ensures
+    ∙ products_turn (λ k. get_or a k 0) (λ k. get_or b k 0) (length l.yielded) l.invariant
+    (c.clmul_64x64-product.ensures ∙ ap₂ (λ x y. limbs (cmul x y)) (t.2 0) (t.3 0)))
 
 pub returns : goal.returns
 returns c =
-    let l = c.loop-i in
-    let a = c.args in
-    let e : l.i ≡ length a.a.now = omega arith in
+    let l = c.loop-x in
+    let a = c.args.a.now in
+    let b = c.args.b.now in
+    let z = zip_end a b l.yielded c.into_iter-x-iterator.result _ c.next.new.self _ (search rules) (search rules) l.yielded_by c.in-None.is c.next.ensures.steps in
+    let e : length l.yielded ≡ length a = omega arith in
     simp (eq-eqb _ _ c.if-a-b.false)
-    (ap Value (c.reduce_64.ensures
-    ∙ products-rem (λ k. get_or a.a.now k 0) (λ k. get_or a.b.now k 0) (length a.a.now)
-    (λ k. (c.shared_slice_known-1.given k).fits) (λ k. (c.shared_slice_known-2-1.given k).fits) (rw e at l.invariant.1)))
+    (ap Ok (c.reduce_64.ensures
+    ∙ products-rem (λ k. get_or a k 0) (λ k. get_or b k 0) (length a)
+    (λ k. (c.type_inv.a k).fits) (λ k. (c.type_inv.b k).fits) (rw e at l.invariant)))

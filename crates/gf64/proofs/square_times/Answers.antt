@@ -1,19 +1,13 @@
 -- `gf64::square_times` meets its contract: after as many turns, as many squarings. Assumes nothing.
-use mathlib.Core.Path.{◌≡◌}
-use native.Mathlib.Omega.{arith}
-use Rattle.gf64.proofs.Chain.{frob_none, frob_turn}
-use borrow.Author.Rules.{rules}
+use Rattle.std.proofs.Common.{◌∙◌}
+use Rattle.gf2.proofs.Ring.{sq_is}
+use Rattle.gf2.proofs.Squarings.{frob_none, frob_turn}
 use Rattle.gf64.proofs.square_times.Goals as goal
 
-pub loop-done-init : goal.loop-done-init
-loop-done-init c = (search rules, frob_none c.args.x)
+pub loop-init : goal.loop-init
+loop-init c = frob_none 64 0x1b c.args.x
 
-pub loop-done-preserved : goal.loop-done-preserved
-loop-done-preserved c =
-    let l = c.loop-done in
-    (search rules, frob_turn c.args.x l.done l.invariant.1 c.poly_square_64-y.ensures)
-
-pub returns : goal.returns
-returns c =
-    let e : c.loop-done.done ≡ c.args.count = omega arith in
-    rw e at c.loop-done.invariant.1
+pub loop-preserved : goal.loop-preserved
+loop-preserved c =
+    let l = c.loop in
+    frob_turn 64 0x1b l.counter c.args.x l.invariant (c.poly_square_64-y.ensures ∙ sq_is 64 0x1b l.y)

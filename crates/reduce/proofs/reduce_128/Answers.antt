@@ -1,12 +1,13 @@
--- `reduce::reduce_128` meets its contract. Assumes nothing.
-use mathlib.Core.Path.{refl, sym, ap₂, ◌∙◌}
-use Prim.Native.Nat.{◌+◌, ◌*◌, ◌^◌, ◌<◌}
+-- `reduce::reduce_128` meets its contract: the two folds, a limb at a time. Assumes nothing.
+use mathlib.Core.Path.{sym, ap, ap₂, ◌∙◌}
+use Prim.Native.Nat.{ℕ, ◌+◌, ◌*◌, ◌%◌, ◌^◌, ◌<◌}
 use native.Mathlib.Omega.{arith}
 use lib.Dec.{lit≤, lit<}
+use Rattle.gf2.specs.Poly.{◌⊕◌, cmul}
 use Rattle.words.specs.Limbs.{value}
 use Rattle.words.proofs.Value.{pair, limbs-small}
 use Rattle.gf2.proofs.Rem.{rem_lt}
-use Rattle.reduce.proofs.Words.{rem-low_word, rem-high_word}
+use Rattle.reduce.proofs.Words.{rem-low_folded, rem-high_folded}
 use Rattle.reduce.proofs.reduce_128.Goals as goal
 
 pub returns : goal.returns
@@ -20,7 +21,9 @@ returns c =
     let l₁ : h₁ < 2 ^ 64 = omega arith in
     let m₀ : a₀ < 2 ^ 64 = omega arith in
     let m₁ : a₁ < 2 ^ 64 = omega arith in
-    sym (limbs-small _ (rem_lt 128 0x87 (lit< tt) (value a.high * 2 ^ 128 + value a.low))
-    ∙ ap₂ pair
-    (rem-low_word 64 7 2 1 57 62 63 refl refl refl (lit≤ tt) (lit≤ tt) (lit≤ tt) h₁ h₀ l₁ l₀ (lit< tt) a₁ a₀ m₁ m₀)
-    (rem-high_word 64 7 2 1 57 62 63 refl refl refl (lit≤ tt) (lit≤ tt) (lit≤ tt) h₁ h₀ l₁ l₀ (lit< tt) a₁ a₀ m₁ m₀))
+    ap₂ pair
+    (ap₂ (λ (x y : ℕ). a₀ ⊕ x ⊕ y) c.folded.ensures (c.folded-2.ensures ∙ ap (λ (x : ℕ). cmul x 0x87 % 2 ^ 64) c.spilled-spill.ensures)
+    ∙ sym (rem-low_folded 64 7 0x87 (lit< tt) (lit≤ tt) h₁ h₀ l₁ l₀ (lit< tt) a₁ a₀ m₁ m₀))
+    (ap₂ (λ (x y : ℕ). a₁ ⊕ x ⊕ y) c.folded-3.ensures c.spilled-carried.ensures
+    ∙ sym (rem-high_folded 64 7 0x87 (lit< tt) (lit≤ tt) h₁ h₀ l₁ l₀ (lit< tt) a₁ a₀ m₁ m₀))
+    ∙ sym (limbs-small _ (rem_lt 128 0x87 (lit< tt) (value a.high * 2 ^ 128 + value a.low)))

@@ -1,9 +1,10 @@
--- `reduce::reduce_64` meets its contract. Assumes nothing.
-use mathlib.Core.Path.{refl, sym}
-use Prim.Native.Nat.{◌^◌, ◌<◌}
+-- `reduce::reduce_64` meets its contract: the two folds. Assumes nothing.
+use mathlib.Core.Path.{sym, ap, ap₂, ◌∙◌}
+use Prim.Native.Nat.{ℕ, ◌%◌, ◌^◌, ◌<◌}
 use native.Mathlib.Omega.{arith}
 use lib.Dec.{lit≤, lit<}
-use Rattle.reduce.proofs.Folds.{rem-shifts}
+use Rattle.gf2.specs.Poly.{◌⊕◌, cmul}
+use Rattle.reduce.proofs.Folds.{rem-folded}
 use Rattle.reduce.proofs.reduce_64.Goals as goal
 
 pub returns : goal.returns
@@ -12,4 +13,6 @@ returns c =
     let hi = c.args.product.high in
     let hl : lo < 2 ^ 64 = omega arith in
     let hh : hi < 2 ^ 64 = omega arith in
-    sym (rem-shifts 64 4 3 1 60 61 63 refl refl refl (lit≤ tt) (lit≤ tt) (lit≤ tt) (lit< tt) hi lo hh hl)
+    ap₂ (λ (x y : ℕ). lo ⊕ x ⊕ y) c.folded.ensures
+    (c.folded-2.ensures ∙ ap (λ (x : ℕ). cmul x 0x1b % 2 ^ 64) c.spilled-spill.ensures)
+    ∙ sym (rem-folded 64 4 0x1b (lit< tt) (lit≤ tt) hi lo hh hl (lit< tt))

@@ -1,4 +1,5 @@
+use Rattle.tower.specs.Split.{level}
 use Rattle.tower.proofs.+tower_mul.Given as goal
 
 abbrev pub decreases-tower_mul : goal.decreases-tower_mul
-decreases-tower_mul l = l.level
+decreases-tower_mul l = level l.top

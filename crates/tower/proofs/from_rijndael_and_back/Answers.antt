@@ -7,4 +7,4 @@ use Rattle.towers.proofs.Basis.{out_into}
 use Rattle.tower.proofs.from_rijndael_and_back.Goals as goal
 
 pub returns : goal.returns
-returns c = ap element (c.to_rijndael.ensures ∙ ap out c.from_rijndael.ensures ∙ out_into c.args.x.0 (search rules))
+returns c = ap element (c.from-2.ensures ∙ ap out c.from.ensures ∙ out_into c.args.x.0 (search rules))

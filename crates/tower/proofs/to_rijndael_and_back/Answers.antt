@@ -7,5 +7,5 @@ use Rattle.tower.proofs.to_rijndael_and_back.Goals as goal
 
 pub returns : goal.returns
 returns c =
-    let e = c.from_rijndael.ensures ∙ ap into c.to_rijndael.ensures ∙ into_out c.args.x.0 (search rules) in
+    let e = c.from-2.ensures ∙ ap into c.from.ensures ∙ into_out c.args.x.0 (search rules) in
     λ i. record { 0 = e i }

@@ -12,32 +12,23 @@ use Rattle.towers.proofs.Basis.{image_split, lowest_lt, image-zero}
 use Rattle.tower.proofs.tower_images.Goals as goal
 
 pub loop-j-init : goal.loop-j-init
-loop-j-init c = (search rules, search rules, record { size = refl; done = first })
+loop-j-init c = record { size = refl; done = first }
   where
     first : (k : ℕ) → k < 1 → get_or (replicate 8 1) k 0 ≡ monomial_image 3 k
     first k l = let e : 0 ≡ k = omega arith in subst (λ (k : ℕ). get_or (replicate 8 1) k 0 ≡ monomial_image 3 k) e (sym image-zero)
 
-pub overflow_cast-lowest : goal.overflow_cast-lowest
-overflow_cast-lowest c = let l = c.loop-j in omega (arith, lowest_lt l.j c.loop-j-test.true (λ e. omega arith))
-
 pub bounds-lowest : goal.bounds-lowest
-bounds-lowest c = let l = c.loop-j in lowest_lt l.j c.loop-j-test.true (λ e. omega arith)
-
-pub bounds-images-j : goal.bounds-images-j
-bounds-images-j c = let j = c.loop-j.j in omega (arith, and_le_r j (j - 1))
+bounds-lowest c = lowest_lt c.loop-j.j c.loop-j-test.true (λ e. omega arith)
 
 pub loop-j-preserved : goal.loop-j-preserved
 unfolding xi
 loop-j-preserved c =
     let l = c.loop-j in
     let j = l.j in
-    let rest = l.invariant.2.done (bit_and j (j - 1)) (omega (arith, and_le_r j (j - 1))) in (
-      search rules,
-      search rules,
-      filled_turn (search rules) l.invariant.2
-          (c.mul_bytes.ensures ∙ ap₂ bmul refl rest ∙ image_split j c.loop-j-test.true (λ e. omega arith)),
-    )
+    let rest = l.invariant.done (bit_and j (j - 1)) (omega (arith, and_le_r j (j - 1))) in
+    filled_turn (search rules) l.invariant
+    (c.mul_bytes.ensures ∙ ap₂ bmul refl rest ∙ image_split j c.loop-j-test.true (λ e. omega arith))
 
 pub returns : goal.returns
 unfolding out_images
-returns c = let e : c.loop-j.j ≡ 8 = omega arith in filled_all (rw e at c.loop-j.invariant.2)
+returns c = let e : c.loop-j.j ≡ 8 = omega arith in filled_all (rw e at c.loop-j.invariant)

@@ -8,14 +8,14 @@ use Rattle.spellings.specs.Quadword.{image}
 use Rattle.gf2.proofs.Sweep.{swept_none, swept_turn, swept_all}
 use Rattle.matrix.proofs.ByteMatrix.apply_slice.Goals as goal
 
-pub loop-i-init : goal.loop-i-init
-loop-i-init c = (search rules, swept_none)
+pub loop-byte-init : goal.loop-byte-init
+loop-byte-init c = swept_none
 
-pub loop-i-preserved : goal.loop-i-preserved
-loop-i-preserved c =
-    let l = c.loop-i in
+pub loop-byte-preserved : goal.loop-byte-preserved
+loop-byte-preserved c =
+    let l = c.loop-byte in
     let q = c.args.self.0 in
-    (search rules, swept_turn (search rules) l.invariant.1 (c.apply.ensures ∙ ap (image q) (l.invariant.1.rest l.i (le_refl l.i))))
+    swept_turn (search rules) l.invariant (c.apply.ensures ∙ ap (image q) (l.invariant.rest l.byte-index (le_refl l.byte-index)))
 
 pub returns : goal.returns
-returns c = let l = c.loop-i in swept_all l.invariant.1 (omega (arith, l.invariant.1.filled.size))
+returns c = let l = c.loop-byte in swept_all l.invariant (omega (arith, l.invariant.filled.size))

@@ -14,7 +14,7 @@ use Rattle.matrix.proofs.ByteMatrix.from_images.Invariants.{bits}
 use Rattle.matrix.proofs.ByteMatrix.from_images.Goals as goal
 
 pub loop-k-init : goal.loop-k-init
-loop-k-init c = (search rules, sym (poly-nil _))
+loop-k-init c = sym (poly-nil _)
 
 pub overflow_cast-quadword-in-loop-k : goal.overflow_cast-quadword-in-loop-k
 overflow_cast-quadword-in-loop-k c = omega (arith, and_le_r (get_or c.args.images (c.loop-k.k % 8) 0 / 2 ^ (7 - c.loop-k.k / 8)) 1)
@@ -22,12 +22,10 @@ overflow_cast-quadword-in-loop-k c = omega (arith, and_le_r (get_or c.args.image
 pub loop-k-preserved : goal.loop-k-preserved
 loop-k-preserved c =
     let l = c.loop-k in
-    let s = c.args.images in (
-      search rules,
-      poly_turn 64 l.k (bits s) (search rules) (coef-lt _ _) l.invariant.1
-          (coef_mask _ _ ∙ ap (λ (x : ℕ). coef x (7 - l.k / 8)) (sym (apply-pow s (l.k % 8)))),
-    )
+    let s = c.args.images in
+    poly_turn 64 l.k (bits s) (search rules) (coef-lt _ _) l.invariant
+    (coef_mask _ _ ∙ ap (λ (x : ℕ). coef x (7 - l.k / 8)) (sym (apply-pow s (l.k % 8))))
 
 pub returns : goal.returns
 unfolding find_quadword
-returns c = let e : c.loop-k.k ≡ 64 = omega arith in rw e at c.loop-k.invariant.1
+returns c = let e : c.loop-k.k ≡ 64 = omega arith in rw e at c.loop-k.invariant

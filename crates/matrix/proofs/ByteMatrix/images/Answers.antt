@@ -1,22 +1,17 @@
--- `matrix::ByteMatrix::images` meets its contract: after b turns b images are there. Assumes nothing.
-use mathlib.Core.Path.{◌≡◌, refl, ap, ◌∙◌}
-use native.Mathlib.Omega.{arith}
+-- `matrix::ByteMatrix::images` meets its contract: entry b is the image of 2^b. Assumes nothing.
+use mathlib.Core.Path.{ap, ◌∙◌}
+use Prim.Native.Nat.{◌*◌, ◌%◌, ◌^◌}
 use borrow.Author.Rules.{rules}
 use Rattle.spellings.specs.Quadword.{image}
 use Rattle.spellings.specs.Lists.{find_images}
 use Rattle.gf2.proofs.Bits.{shl_one}
-use Rattle.gf2.proofs.Table.{filled_none, filled_turn, filled_all}
+use Rattle.gf2.proofs.Table.{tab_below}
+use Rattle.gf2.proofs.Arrays.{made_table}
 use Rattle.matrix.proofs.ByteMatrix.images.Goals as goal
-
-pub loop-b-init : goal.loop-b-init
-loop-b-init c = (search rules, filled_none refl)
-
-pub loop-b-preserved : goal.loop-b-preserved
-loop-b-preserved c =
-    let l = c.loop-b in
-    let q = c.args.self.0 in
-    (search rules, filled_turn (search rules) l.invariant.1 (c.apply.ensures ∙ ap (image q) (shl_one 8 l.b (search rules))))
 
 pub returns : goal.returns
 unfolding find_images
-returns c = let e : c.loop-b.b ≡ 8 = omega arith in filled_all (rw e at c.loop-b.invariant.1)
+returns c =
+    let q = c.args.self.0 in
+    made_table _ _ 8 (λ b. image q (1 * 2 ^ b % 2 ^ 8)) (λ b y d h k. search rules) c.from_fn.ensures.items
+    ∙ tab_below 8 (λ b h. ap (image q) (shl_one 8 b h))

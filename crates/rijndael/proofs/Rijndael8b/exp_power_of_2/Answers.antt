@@ -1,20 +1,19 @@
--- `rijndael::Rijndael8b::exp_power_of_2` meets its contract: after i turns `x` is squared i times. Assumes nothing.
+-- `rijndael::Rijndael8b::exp_power_of_2` meets its contract: after a number of turns `x` is squared as often. Assumes nothing.
 use Rattle.std.proofs.Common.{◌≡◌, ◌%◌, sym, ◌∙◌, arith, rules}
+use Rattle.gf2.proofs.Ring.{sq_is}
 use Rattle.gf2.proofs.Squarings.{frob_none, frob_turn}
 use Rattle.rijndael.proofs.Laws.{frob_remainder}
 use Rattle.rijndael.proofs.Rijndael8b.exp_power_of_2.Goals as goal
 
-pub loop-i-init : goal.loop-i-init
-loop-i-init c = (search rules, frob_none 8 0x1b _)
+pub loop-turn-init : goal.loop-turn-init
+loop-turn-init c = frob_none 8 0x1b _
 
-pub loop-i-preserved : goal.loop-i-preserved
-loop-i-preserved c =
-    let l = c.loop-i in
-    (search rules, frob_turn 8 0x1b l.i _ l.invariant.1 c.mul_bytes-x.ensures)
+pub loop-turn-preserved : goal.loop-turn-preserved
+loop-turn-preserved c = frob_turn 8 0x1b c.loop-turn._turn _ c.loop-turn.invariant (c.square-x.ensures ∙ sq_is 8 0x1b _)
 
 pub returns : goal.returns
 returns c =
-    let l = c.loop-i in
+    let l = c.loop-turn in
     let a = c.args in
-    let e : l.i ≡ a.power_log % 8 = omega arith in
-    (rw e at l.invariant.1) ∙ sym (frob_remainder a.power_log a.self.0 (search rules))
+    let e : l._turn ≡ a.power_log % 8 = omega arith in
+    (rw e at l.invariant) ∙ sym (frob_remainder a.power_log a.self.0 (search rules))

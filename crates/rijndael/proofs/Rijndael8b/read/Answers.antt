@@ -1,9 +1,6 @@
--- `rijndael::Rijndael8b::read` meets its contract: there is no byte, or a first one. Assumes nothing.
-use Rattle.rijndael.proofs.Lent.{read_none, read_some}
+-- `rijndael::Rijndael8b::read` meets its contract: there is a first byte. Assumes nothing.
+use Rattle.rijndael.proofs.Lent.{read_some}
 use Rattle.rijndael.proofs.Rijndael8b.read.Goals as goal
 
-pub returns-then-s-lt1 : goal.returns-then-s-lt1
-returns-then-s-lt1 c = read_none c.args.s.now c.if-s-lt1.true
-
-pub returns : goal.returns
-returns c = read_some c.args.s.now c.if-s-lt1.false
+pub returns-in-len1-up : goal.returns-in-len1-up
+returns-in-len1-up c = read_some c.args.s.now c.in-len1-up.len_at_least

@@ -1,19 +1,9 @@
--- `togasipe::put::elements_of` meets its contract: after i turns i entries are there. Assumes nothing.
-use mathlib.Core.Path.{◌≡◌, refl, ap, ◌∙◌}
-use native.Mathlib.Omega.{arith}
-use borrow.Author.Rules.{rules}
-use Rattle.gf2.proofs.Table.{filled_none, filled_turn, filled_all}
+-- `togasipe::put::elements_of` meets its contract: entry i is the element of byte i. Assumes nothing.
+use Rattle.std.proofs.Common.{rules, ◌∙◌}
 use Rattle.rijndael.specs.Element.{element}
+use Rattle.gf2.proofs.Arrays.{mapped_table}
 use Rattle.togasipe.proofs.Eight.{tab-elements}
 use Rattle.togasipe.proofs.put.elements_of.Goals as goal
 
-pub loop-i-init : goal.loop-i-init
-loop-i-init c = (search rules, filled_none refl)
-
-pub loop-i-preserved : goal.loop-i-preserved
-loop-i-preserved c = (search rules, filled_turn (search rules) c.loop-i.invariant.1 (ap element c.from_byte.ensures))
-
 pub returns : goal.returns
-returns c =
-    let n : c.loop-i.i ≡ 8 = omega arith in
-    filled_all (rw n at c.loop-i.invariant.1) ∙ tab-elements 8 c.args.b (search rules)
+returns c = mapped_table _ _ element (λ x y q called. search rules) 0 8 c.map.ensures.items ∙ tab-elements 8 c.args.bytes (search rules)

@@ -1,0 +1,18 @@
+-- Refusal 4 is exact at 8 and at 16 bytes, and an element of two limbs that was written is read again.
+use Rattle.std.proofs.Common.{◌∙◌, ap, Ok}
+use Rattle.words.specs.Limbs.{value, limbs}
+use Rattle.words.proofs.Value.{limbs-value, value-lt}
+use Rattle.answers.specs.Answer.{mapped}
+use Rattle.answers.specs.Lent.{read_of}
+use Rattle.answers.specs.declared.Refusal.TheVariants.{Short}
+use Rattle.answers.proofs.Refusals.{refuses_mapped}
+use Rattle.answers.proofs.Written.{read_written, lent}
+use Rattle.endian.specs.Refusals.{RefusalsLent}
+
+pub refusals_lent : RefusalsLent
+refusals_lent = record {
+  at_64 = lent 8;
+  at_128 = lent 16;
+  read_128_refuses = λ s. refuses_mapped limbs (read_of 16 s) Short ((lent 16).read_refuses s);
+  read_128_written = λ d l h p q. ap (mapped limbs) (read_written 16 d (value l) h (value-lt l p q)) ∙ ap Ok (limbs-value l p q);
+}

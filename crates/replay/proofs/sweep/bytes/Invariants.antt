@@ -1,6 +1,0 @@
--- Each turn writes one byte more.
-use Rattle.std.proofs.Common.{◌-◌}
-use Rattle.replay.proofs.sweep.bytes.Given as goal
-
-abbrev pub decreases-loop-i : goal.decreases-loop-i
-decreases-loop-i l = l.n - l.i

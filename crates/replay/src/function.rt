@@ -1,0 +1,93 @@
+// The functions that a list may call, by their names there.
+// Kept: an enum and a table and no arms `b".."`: tried, and their proof is six times as large, which the gate's time does not allow.
+
+#[derive(Clone, Copy)]
+pub(crate) enum Function {
+    SpreadBits64,
+    CompactEven,
+    Bmul64,
+    Clmul64x64,
+    Reduce64,
+    Reduce128,
+    PolyMul128,
+    PolySquare128,
+    PolyDot128,
+    PolyMul64,
+    PolySquare64,
+    PolySqrt64,
+    PolyInverse64,
+    TryInverse64,
+    Div64,
+    PolyDot64,
+    RijndaelMul,
+    RijndaelInvertOrZero,
+    RijndaelSqrt,
+    RijndaelExpPowerOf2,
+    RijndaelTryInverse,
+    RijndaelDiv,
+    RijndaelInterpolationNode,
+    TowerMul,
+    TowerToRijndael,
+    TowerFromRijndael,
+    MatrixApply,
+    MatrixCompose,
+    MatrixFromImages,
+    MatrixImages,
+    FrobeniusMap,
+    LinearizedEval,
+    LinearizedToMatrix,
+    LinearizedFromMatrix,
+    MulSlice,
+    InvertSlice,
+    ApplySlice,
+}
+
+static NAMES: [(&str, Function); 37] = [
+    ("spread_bits_64", Function::SpreadBits64),
+    ("compact_even", Function::CompactEven),
+    ("bmul64", Function::Bmul64),
+    ("clmul_64x64", Function::Clmul64x64),
+    ("reduce_64", Function::Reduce64),
+    ("reduce_128", Function::Reduce128),
+    ("poly_mul_128", Function::PolyMul128),
+    ("poly_square_128", Function::PolySquare128),
+    ("poly_dot_128", Function::PolyDot128),
+    ("poly_mul_64", Function::PolyMul64),
+    ("poly_square_64", Function::PolySquare64),
+    ("poly_sqrt_64", Function::PolySqrt64),
+    ("poly_inverse_64", Function::PolyInverse64),
+    ("try_inverse_64", Function::TryInverse64),
+    ("div_64", Function::Div64),
+    ("poly_dot_64", Function::PolyDot64),
+    ("rijndael_mul", Function::RijndaelMul),
+    ("rijndael_invert_or_zero", Function::RijndaelInvertOrZero),
+    ("rijndael_sqrt", Function::RijndaelSqrt),
+    ("rijndael_exp_power_of_2", Function::RijndaelExpPowerOf2),
+    ("rijndael_try_inverse", Function::RijndaelTryInverse),
+    ("rijndael_div", Function::RijndaelDiv),
+    (
+        "rijndael_interpolation_node",
+        Function::RijndaelInterpolationNode,
+    ),
+    ("tower_mul", Function::TowerMul),
+    ("tower_to_rijndael", Function::TowerToRijndael),
+    ("tower_from_rijndael", Function::TowerFromRijndael),
+    ("matrix_apply", Function::MatrixApply),
+    ("matrix_compose", Function::MatrixCompose),
+    ("matrix_from_images", Function::MatrixFromImages),
+    ("matrix_images", Function::MatrixImages),
+    ("frobenius_map", Function::FrobeniusMap),
+    ("linearized_eval", Function::LinearizedEval),
+    ("linearized_to_matrix", Function::LinearizedToMatrix),
+    ("linearized_from_matrix", Function::LinearizedFromMatrix),
+    ("mul_slice", Function::MulSlice),
+    ("invert_slice", Function::InvertSlice),
+    ("apply_slice", Function::ApplySlice),
+];
+
+impl Function {
+    pub(crate) fn named(name: &[u8]) -> Option<Self> {
+        let (_, function) = NAMES.iter().find(|(known, _)| known.as_bytes() == name)?;
+        Some(*function)
+    }
+}
