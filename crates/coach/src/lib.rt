@@ -28,7 +28,7 @@ pub fn pack_rows(rows: &[u8], words: &mut [u64]) -> Result<usize, Refusal>
     if count > words.len() {
         return Err(Refusal::Short);
     }
-    // Kept: `words[i]` and no `zip`: tried, and of the elements nothing is known after an adapter of `iter_mut`.
+    // Kept: `words[i]` and no `zip`: tried, and of the elements nothing is known after a `zip` on `iter_mut`.
     for (i, chunk) in rows.chunks(8).enumerate() {
         words[i] = row_word(chunk);
     }

@@ -16,7 +16,7 @@ pub fn mul_slice(dst: &mut [u8], src: &[u8]) -> Result<(), Refusal>
     if dst.len() != src.len() {
         return Err(Refusal::LengthsDiffer);
     }
-    // Kept: `src[i]` and no `zip`: tried, and of the elements nothing is known after an adapter of `iter_mut`.
+    // Kept: `src[i]` and no `zip`: tried, and of the elements nothing is known after a `zip` on `iter_mut`.
     for (i, x) in dst.iter_mut().enumerate() {
         *x = rijndael::mul_bytes(*x, src[i]);
     }
