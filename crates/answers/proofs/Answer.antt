@@ -1,6 +1,6 @@
 -- What the numbers of answers tell.
-use Rattle.std.proofs.Common.{◌≡◌, ◌∙◌, refl, ℕ, sym, ap, arith, [], ◌∷◌, ◌≢◌, get_or, Ok, Err}
-use Rattle.answers.specs.Answer.{Answer, Numbers, refusal}
+use Rattle.std.proofs.Common.{◌≡◌, ◌∙◌, refl, ℕ, sym, ap, arith, [], ◌∷◌, ◌≢◌, get_or}
+use Rattle.answers.specs.Answer.{Numbers, refusal}
 use Rattle.answers.specs.declared.Refusal.{Refusal}
 use Rattle.answers.specs.declared.Refusal.TheVariants.{NoInverse, LengthsDiffer, BadIndex, Short, OddLimbs, TooManyWords}
 
@@ -27,9 +27,12 @@ named_refusal Short = refl
 named_refusal OddLimbs = refl
 named_refusal TooManyWords = refl
 
+pub refusal_apart : (why why' : Refusal) → refusal why ≡ refusal why' → why ≡ why'
+refusal_apart why why' e = sym (named_refusal why) ∙ ap named e ∙ named_refusal why'
+
 pub numbers : (A : Type 0) → Numbers A
 numbers A = record {
   accepted = λ v. refl;
   refused = refusal_not_0;
-  apart = λ why why' e. sym (named_refusal why) ∙ ap named e ∙ named_refusal why';
+  apart = refusal_apart;
 }

@@ -1,4 +1,5 @@
 pub mod Answer
+pub mod Text
 pub mod Refusals
 pub mod Quotient
 pub mod Lent

@@ -1,3 +1,4 @@
 pub mod Answer
+pub mod Text
 pub mod Quotient
 pub mod Lent

@@ -1,8 +1,9 @@
 // Why a call refuses: one vocabulary for all crates above. A call that may refuse answers its value, or one of these.
 #![tactic(auto)]
 
-ghost use Rattle.std.specs.Prelude.{◌≡◌};
+ghost use Rattle.std.specs.Prelude.{◌≡◌, Some};
 ghost use Rattle.answers.specs.Answer.{refusal, number as number_of};
+ghost use Rattle.answers.specs.Text.{text_of};
 
 use std::error::Error;
 use std::fmt;
@@ -29,6 +30,8 @@ impl Refusal {
 
 // "refusal 4"
 impl fmt::Display for Refusal {
+    ghost output = { λ why. Some (text_of why) };
+
     fn fmt<W: fmt::Write>(&self, f: &mut fmt::Formatter<W>) -> fmt::Result {
         write!(f, "refusal {}", self.number())
     }

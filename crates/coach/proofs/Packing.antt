@@ -1,14 +1,16 @@
 -- The words of a map's rows, and what `pack_rows` leaves.
-use Rattle.std.proofs.Common.{◌≡◌, ◌∙◌, refl, sym, ap, arith, ℕ, zero, suc, ◌+◌, ◌-◌, ◌*◌, ◌^◌, ◌≤◌, ◌<◌, List, length, get_or, take, drop, add-zero, add-suc, zero-add, zero-mul, get_or-take, get_or-drop, Bool, ltb, ◌++◌, min, lt-ltb, le-ltb, le-leb, Ok, Err}
+use Rattle.std.proofs.Common.{◌≡◌, ◌∙◌, refl, sym, ap, ap₂, arith, ℕ, zero, suc, ◌+◌, ◌*◌, ◌%◌, ◌^◌, ◌≤◌, ◌<◌, List, length, get_or, take, drop, add-one, add-zero, zero-add, get_or-take, get_or-drop, shl_exact, slice_index, Bool, ltb, ◌++◌, min, lt-ltb, le-ltb, le-leb, Ok, Err}
 use Rattle.std.proofs.lemmas.Bool.{lt-leb}
 use Rattle.std.proofs.lemmas.Grind.{common_steps}
-use Rattle.std.proofs.Math.ListN.{get_or-eq_default}
-use Rattle.std.specs.Int.Bits.{xor_zero_r}
+use Rattle.std.proofs.Math.Nat.{le_refl, pow-suc}
+use Rattle.std.specs.Int.{sum_through, byte_worth, from_le_bytes, w64}
 use Rattle.gf2.specs.Poly.{xsum, ◌⊕◌}
 use Rattle.gf2.proofs.Sum.{xsum_last, xsum_below}
 use Rattle.gf2.specs.Bits.{pick}
 use Rattle.gf2.proofs.Sweep.{Swept, swept_part}
+use Rattle.answers.specs.Lent.{word_of, Bytes}
 use Rattle.answers.specs.declared.Refusal.TheVariants.{Short}
+use Rattle.answers.proofs.Lent.{word_of_none, word_of_turn, word_of-one, word_of_plus, pow-byte}
 use Rattle.coach.specs.Rows.{words_for_rows, row_word_of, packed_answer, packed}
 
 -- ---- one word
@@ -17,20 +19,34 @@ use Rattle.coach.specs.Rows.{words_for_rows, row_word_of, packed_answer, packed}
 abbrev pub row : List ℕ → ℕ → ℕ → ℕ
 row rows at k = get_or rows (at + k) 0 * 2 ^ (8 * k)
 
--- terms of zero after the first n
-xsum_end : (n m : ℕ) (f : ℕ → ℕ) → ((j : ℕ) → n ≤ j → f j ≡ 0) → xsum (n + m) f ≡ xsum n f
-xsum_end n zero f h = ap (λ (k : ℕ). xsum k f) (add-zero n)
-xsum_end n (suc m) f h =
-    ap (λ (k : ℕ). xsum k f) (add-suc n m) ∙ xsum_last (n + m) f
-    ∙ ap (λ (x : ℕ). xsum (n + m) f ⊕ x) (h (n + m) (omega arith)) ∙ xor_zero_r (xsum (n + m) f) ∙ xsum_end n m f h
+-- the first k rows in their places are the number of the first k bytes
+rows_word_of : (k : ℕ) (rows : List ℕ) → Bytes rows → xsum k (row rows 0) ≡ word_of k rows
+unfolding xsum
+rows_word_of zero rows h = word_of_none rows
+rows_word_of (suc k) rows h =
+    let b : get_or rows k 0 < 2 ^ 8 = h k in
+    let place : row rows 0 k ≡ get_or rows k 0 * 2 ^ (8 * k) % 2 ^ (8 + 8 * k) =
+    ap (λ (j : ℕ). get_or rows j 0 * 2 ^ (8 * k)) (zero-add k) ∙ sym (shl_exact 8 (8 * k) (8 + 8 * k) b (le_refl (8 + 8 * k))) in
+    xsum_last k (row rows 0) ∙ ap (λ (x : ℕ). xsum k (row rows 0) ⊕ x) place
+    ∙ word_of_turn (8 + 8 * k) k rows h (le_refl (8 + 8 * k)) (rows_word_of k rows h) refl ∙ ap (λ (n : ℕ). word_of n rows) (add-one k)
 
--- all rows of at most eight
-pub row_word_all : (rows : List ℕ) (k : ℕ) {word : ℕ} → k ≡ length rows → length rows ≤ 8 → word ≡ xsum k (row rows 0) → word ≡ row_word_of rows 0
+-- a byte more is eight bits more
+pow-256 : (k : ℕ) → 256 ^ k ≡ 2 ^ (8 * k)
+pow-256 zero = refl
+pow-256 (suc k) = pow-suc 256 k ∙ ap (λ (n : ℕ). n * 256) (pow-256 k) ∙ sym (pow-byte k)
+
+-- and so is the sum that std makes of them
+bytes_worth : (k : ℕ) (s : List ℕ) → sum_through (λ i. byte_worth i (slice_index s i)) k ≡ word_of (suc k) s
+bytes_worth zero s = sym (word_of-one s)
+bytes_worth (suc k) s =
+    let top : word_of 1 (drop (suc k) s) * 2 ^ (8 * suc k) ≡ get_or s (suc k) 0 * 256 ^ suc k =
+    ap₂ (λ (x y : ℕ). x * y) (word_of-one (drop (suc k) s) ∙ get_or-drop (suc k) s 0 0 ∙ ap (λ (n : ℕ). get_or s n 0) (add-zero (suc k))) (sym (pow-256 (suc k))) in
+    ap₂ (λ (x y : ℕ). x + y) (bytes_worth k s) (sym top) ∙ sym (word_of_plus (suc k) 1 s) ∙ ap (λ (n : ℕ). word_of n s) (add-one (suc k))
+
+-- all of eight rows
+pub row_word_whole : (rows : List ℕ) → Bytes rows → from_le_bytes w64 rows ≡ row_word_of rows 0
 unfolding row_word_of
-row_word_all rows k e h p =
-    let past : (j : ℕ) → length rows ≤ j → row rows 0 j ≡ 0 = λ j l. ap (λ (x : ℕ). x * 2 ^ (8 * j)) (get_or-eq_default rows 0 (omega arith)) ∙ zero-mul (2 ^ (8 * j)) in
-    let s : length rows + (8 - length rows) ≡ 8 = omega arith in
-    p ∙ ap (λ (n : ℕ). xsum n (row rows 0)) e ∙ sym (xsum_end (length rows) (8 - length rows) (row rows 0) past) ∙ ap (λ (n : ℕ). xsum n (row rows 0)) s
+row_word_whole rows h = bytes_worth 7 rows ∙ sym (rows_word_of 8 rows h)
 
 -- the rows of a word, taken from the map
 pub row_word_taken : (rows : List ℕ) (at : ℕ) → row_word_of (take 8 (drop at rows)) 0 ≡ row_word_of rows at

@@ -6,7 +6,7 @@ use Rattle.gf2.specs.Poly.{◌⊕◌, cmul}
 use Rattle.gf2.proofs.Fold.{cmul_blocks, karatsuba}
 use Rattle.words.specs.declared.Limbs.{Limbs}
 use Rattle.words.specs.Limbs.{value, limbs}
-use Rattle.words.proofs.Value.{pair, value-xor, limbs-sum}
+use Rattle.words.proofs.Value.{pair, add, value-xor, limbs-xor, limbs-sum}
 use Rattle.clmul.proofs.Halves.{cmul_words_lt}
 use Rattle.gf128.proofs.Blocks.{blocks_low, blocks_high}
 
@@ -38,15 +38,15 @@ module _ (a b : Limbs) (a₀ : a.low < 2 ^ 64) (a₁ : a.high < 2 ^ 64) (b₀ : 
       xor_lt 128 (K ⊕ L) H
       (xor_lt 128 K L (cmul_words_lt (xor_lt 64 a.low a.high a₀ a₁) (xor_lt 64 b.low b.high b₀ b₁)) L-lt) (cmul_words_lt a₁ b₁)
 
-  -- as the code has it, from the three products' limbs and the middle term's
+  -- as the code has it, from the limbs of two products and of the middle term
   module _ {l h m : Limbs} (p : l ≡ limbs L) (q : h ≡ limbs H) (r : m ≡ limbs M) where
-    pub karatsuba_low : pair l.low (l.high ⊕ m.low) ≡ limbs (cmul (value a) (value b))
-    karatsuba_low =
+    pub middle_low : pair l.low (l.high ⊕ m.low) ≡ limbs (cmul (value a) (value b))
+    middle_low =
         (λ i. pair (p i).low ((p i).high ⊕ (r i).low)) ∙ ap (pair (limbs L).low) (xor_comm (limbs L).high (limbs M).low)
         ∙ sym (ap limbs product_blocks ∙ blocks_low H M L M-lt L-lt)
 
-    pub karatsuba_high : pair (h.low ⊕ m.high) h.high ≡ limbs (cmul (value a) (value b) / 2 ^ 128)
-    karatsuba_high =
+    pub middle_high : pair (h.low ⊕ m.high) h.high ≡ limbs (cmul (value a) (value b) / 2 ^ 128)
+    middle_high =
         (λ i. pair ((q i).low ⊕ (r i).high) (q i).high)
         ∙ sym (ap (λ (x : ℕ). limbs (x / 2 ^ 128)) product_blocks ∙ blocks_high H M L M-lt L-lt)
 
@@ -54,3 +54,16 @@ module _ (a b : Limbs) (a₀ : a.low < 2 ^ 64) (a₁ : a.high < 2 ^ 64) (b₀ : 
   pub middle : {l h k t m : Limbs} → l ≡ limbs L → h ≡ limbs H → k ≡ limbs K → t ≡ limbs (value k ⊕ value l)
       → m ≡ limbs (value t ⊕ value h) → m ≡ limbs M
   middle p q r s t = t ∙ limbs-sum (K ⊕ L) H (s ∙ limbs-sum K L r p) q
+
+  -- from the limbs of the three products
+  module _ {l h m : Limbs} (p : l ≡ limbs L) (q : h ≡ limbs H) (r : m ≡ limbs K) where
+    M-limbs : add (add m l) h ≡ limbs M
+    M-limbs =
+        (λ i. add (add (r i) (p i)) (q i))
+        ∙ sym (limbs-xor (K ⊕ L) H ∙ ap (λ (x : Limbs). add x (limbs H)) (limbs-xor K L))
+
+    pub karatsuba_low : pair l.low (l.high ⊕ (m.low ⊕ l.low ⊕ h.low)) ≡ limbs (cmul (value a) (value b))
+    karatsuba_low = middle_low p q M-limbs
+
+    pub karatsuba_high : pair (h.low ⊕ (m.high ⊕ l.high ⊕ h.high)) h.high ≡ limbs (cmul (value a) (value b) / 2 ^ 128)
+    karatsuba_high = middle_high p q M-limbs

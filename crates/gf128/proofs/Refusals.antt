@@ -1,5 +1,5 @@
 -- The refusals are given exactly in their cases, 2 where both apply, and the sum in every other.
-use Rattle.std.proofs.Common.{◌≡◌, refl, Bool, true, false, not, List, [], ◌↔◌, ◌≢◌, ℕ, ◌%◌, arith, eqb, length, Ok}
+use Rattle.std.proofs.Common.{◌≡◌, refl, Bool, true, false, not, List, [], ◌↔◌, ◌≢◌, ℕ, ◌%◌, arith, eqb, length, Ok, Err, eq-eqb, ne_eqb}
 use Rattle.std.proofs.Math.Logic.Iff
 use Rattle.std.proofs.Math.Logic.Dec
 use Rattle.std.proofs.Math.Decide.{ℕ_discrete}
@@ -36,6 +36,13 @@ module _ (a b : List ℕ) where
       (refuses_then (not (eqb (length a) (length b))) LengthsDiffer OddLimbs _ (unequal (length a) (length b)) (λ e. omega arith)
       (refuses (not (eqb (length a % 2) 0)) OddLimbs _ (unequal (length a % 2) 0)))
       equal_then
+
+  -- the answers themselves
+  pub answer_differ : (length a ≡ length b → ⊥) → answer a b ≡ Err LengthsDiffer
+  answer_differ n = simp (ne_eqb (length a) (length b) n)
+
+  pub answer_odd : length a ≡ length b → (length a % 2 ≡ 0 → ⊥) → answer a b ≡ Err OddLimbs
+  answer_odd e n = simp (eq-eqb (length a) (length b) e, ne_eqb (length a % 2) 0 n)
 
 pub refusals128 : Refusals128
 refusals128 = record {

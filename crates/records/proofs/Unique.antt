@@ -3,6 +3,7 @@ use Rattle.std.proofs.Common.{◌≡◌, sym, ◌∙◌}
 use Rattle.records.proofs.Start.{starts_at_none}
 use Rattle.records.proofs.read.Reads as read
 use Rattle.records.proofs.Line.agrees.Reads as line-agrees
+use Rattle.records.proofs.agrees.Reads as agrees
 use Rattle.records.proofs.U8TwoWords.two_words.Reads as byte-words
 use Rattle.records.proofs.U64TwoWords.two_words.Reads as word-words
 use Rattle.records.proofs.LimbsTwoWords.two_words.Reads as limbs-words
@@ -19,6 +20,9 @@ read_unique κs a r r' s s' p q = p ∙ sym q
 
 pub line_agrees_unique : (κs : _) (a : _) (r r' : _) (s s' : _) → line-agrees.Post κs a r s → line-agrees.Post κs a r' s' → r ≡ r'
 line_agrees_unique κs a r r' s s' p q = p ∙ sym q
+
+pub agrees_unique : (κs : _) (a : _) (r r' : _) (s s' : _) → agrees.Post κs a r s → agrees.Post κs a r' s' → r ≡ r'
+agrees_unique κs a r r' s s' p q = p ∙ sym q
 
 pub byte_two_words_unique : (κs : _) (a : _) (r r' : _) (s s' : _) → byte-words.Post κs a r s → byte-words.Post κs a r' s' → r ≡ r'
 byte_two_words_unique κs a r r' s s' p q = p ∙ sym q

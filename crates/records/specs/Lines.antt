@@ -1,5 +1,5 @@
 -- LINES: what a line of a recorded list says.
-use Rattle.std.specs.Prelude.{ℕ, zero, suc, ◌*◌, Bool, true, ◌&&◌, List, take, drop, ◌==◌, slice_index, Option, Some, None, is_some}
+use Rattle.std.specs.Prelude.{ℕ, zero, suc, ◌*◌, Bool, true, false, ◌&&◌, List, take, drop, ◌==◌, slice_index, Option, Some, None, is_some}
 use Rattle.gf2.specs.Bits.{pick, tab}
 use Rattle.hexadecimal.specs.Hex.{hex_of}
 use Rattle.records.specs.declared.Line.{Line}
@@ -26,3 +26,8 @@ line_of s = pick (numbers 8 s) (Some (record { x = tab 8 (λ k. value (word_at s
 -- a line has this answer: its last three words
 abbrev pub agrees_of : Line → Shown → Bool
 agrees_of l a = slice_index l.x 5 == a.number && (slice_index l.x 6 == a.low && slice_index l.x 7 == a.high)
+
+-- a line that was read has this answer: where a word of it is no number, it has none
+abbrev pub read_agrees : Option Line → Shown → Bool
+read_agrees (Some l) a = agrees_of l a
+read_agrees None a = false

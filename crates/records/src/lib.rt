@@ -6,7 +6,7 @@
 ghost use Rattle.std.specs.Prelude.{◌≡◌};
 ghost use Rattle.answers.specs.Answer.{mapped};
 ghost use Rattle.words.specs.declared.Limbs.{Limbs};
-ghost use Rattle.records.specs.Lines.{line_of, agrees_of};
+ghost use Rattle.records.specs.Lines.{line_of, agrees_of, read_agrees};
 ghost use Rattle.records.specs.Shown.{shown, small, shown_left, no_answer, refused_for};
 ghost use Rattle.records.specs.Tally.{with_of, closed_of};
 
@@ -54,6 +54,16 @@ impl Line {
     {
         let [.., number, low, high] = self.x;
         Shown { number, low, high } == answer
+    }
+}
+
+// Whether a line that was read has this answer: where a word of it is no number, it has none.
+pub fn agrees(line: Option<Line>, answer: Shown) -> bool
+    ensures { result ≡ read_agrees line answer }
+{
+    match line {
+        Some(line) => line.agrees(answer),
+        None => false,
     }
 }
 

@@ -1,11 +1,10 @@
 // The recorded calls, each computed again.
 use crate::function::Function;
-use crate::numbers::{Answer, Unjudged, bytes, element, limbs, list, lists, tower_byte};
+use crate::numbers::{Answer, MOST, Unfit, bytes, element, limbs, list, lists, tower_byte};
 use answers::number;
 use frobenius::LinearizedPoly8b;
 use matrix::ByteMatrix;
 use rijndael::Rijndael8b;
-use std::alloc::Global;
 use tower::BinaryField8;
 use words::Limbs;
 
@@ -23,7 +22,7 @@ pub(crate) struct Call<'a> {
 
 impl Call<'_> {
     // Whether the function answers as it is recorded.
-    pub(crate) fn agrees(self, alloc: Global) -> Result<bool, Unjudged> {
+    pub(crate) fn agrees(self) -> Result<bool, Unfit> {
         let Call {
             function,
             arguments,
@@ -39,16 +38,16 @@ impl Call<'_> {
                 gf128::poly_dot_128(a, b).is(answers)
             }
             (Function::MulSlice | Function::InvertSlice | Function::ApplySlice, _) => {
-                self.sweep_agrees(alloc)
+                self.sweep_agrees()
             }
             (_, &[x]) => self.agrees_at_one(x),
             (_, &[x, y]) => self.agrees_at_two(x, y),
             (_, &[a, b, c, d]) => self.agrees_at_limbs(limbs(a, b), limbs(c, d)),
-            _ => Err(Unjudged::Unfit),
+            _ => Err(Unfit),
         }
     }
 
-    fn agrees_at_one(self, x: u64) -> Result<bool, Unjudged> {
+    fn agrees_at_one(self, x: u64) -> Result<bool, Unfit> {
         let answers = self.answers;
         match self.function {
             Function::SpreadBits64 => words::spread_bits_64(x).is(answers),
@@ -75,11 +74,11 @@ impl Call<'_> {
                 let found = LinearizedPoly8b::from_matrix(ByteMatrix::from_quadword(x));
                 u64::from_le_bytes(found.coefficients().map(Rijndael8b::to_byte)).is(answers)
             }
-            _ => Err(Unjudged::Unfit),
+            _ => Err(Unfit),
         }
     }
 
-    fn agrees_at_two(self, x: u64, y: u64) -> Result<bool, Unjudged> {
+    fn agrees_at_two(self, x: u64, y: u64) -> Result<bool, Unfit> {
         let answers = self.answers;
         match self.function {
             Function::Bmul64 => clmul::bmul64(x, y).is(answers),
@@ -102,49 +101,52 @@ impl Call<'_> {
                 second.compose(first).is(answers)
             }
             Function::LinearizedEval => polynomial(x).eval(element(y)?).is(answers),
-            _ => Err(Unjudged::Unfit),
+            _ => Err(Unfit),
         }
     }
 
-    fn agrees_at_limbs(self, x: Limbs, y: Limbs) -> Result<bool, Unjudged> {
+    fn agrees_at_limbs(self, x: Limbs, y: Limbs) -> Result<bool, Unfit> {
         let answers = self.answers;
         match self.function {
             Function::Reduce128 => reduce::reduce_128(x, y).is(answers),
             Function::PolyMul128 => gf128::poly_mul_128(x, y).is(answers),
-            _ => Err(Unjudged::Unfit),
+            _ => Err(Unfit),
         }
     }
 
     // Whether a sweep accepts with 0 and every byte, or refuses with its number and every byte as it stood.
-    fn sweep_agrees(self, alloc: Global) -> Result<bool, Unjudged> {
-        let answers = bytes(alloc, self.answers)?;
-        let (number, swept) = self.swept(alloc)?;
-        Ok(match answers.as_slice() {
-            [first, rest @ ..] => u32::from(*first) == number && rest == swept.as_slice(),
+    fn sweep_agrees(self) -> Result<bool, Unfit> {
+        let mut recorded = [0; MOST];
+        let mut room = [0; MOST];
+        let answers = bytes(self.answers, &mut recorded)?;
+        let (number, swept) = self.swept(&mut room)?;
+        Ok(match answers {
+            [first, rest @ ..] => u32::from(*first) == number && &*rest == swept,
             [] => false,
         })
     }
 
-    // The number that a sweep answers, and what it leaves.
-    fn swept(self, alloc: Global) -> Result<(u32, Vec<u8>), Unjudged> {
+    // The number that a sweep answers, and what it leaves, which stands in `room`.
+    fn swept<'a>(self, room: &'a mut [u8; MOST]) -> Result<(u32, &'a [u8]), Unfit> {
         match (self.function, self.arguments) {
             (Function::MulSlice, arguments) => {
                 let (d, s) = lists(arguments)?;
-                let (mut d, s) = (bytes(alloc, d)?, bytes(alloc, s)?);
-                let done = sweeps::mul_slice(&mut d, &s);
+                let mut other = [0; MOST];
+                let (d, s) = (bytes(d, room)?, bytes(s, &mut other)?);
+                let done = sweeps::mul_slice(d, s);
                 Ok((number(done), d))
             }
             (Function::InvertSlice, arguments) => {
-                let mut d = bytes(alloc, list(arguments)?)?;
-                sweeps::invert_slice(&mut d);
+                let d = bytes(list(arguments)?, room)?;
+                sweeps::invert_slice(d);
                 Ok((0, d))
             }
             (Function::ApplySlice, [rows, arguments @ ..]) => {
-                let mut d = bytes(alloc, list(arguments)?)?;
-                ByteMatrix::from_quadword(*rows).apply_slice(&mut d);
+                let d = bytes(list(arguments)?, room)?;
+                ByteMatrix::from_quadword(*rows).apply_slice(d);
                 Ok((0, d))
             }
-            _ => Err(Unjudged::Unfit),
+            _ => Err(Unfit),
         }
     }
 

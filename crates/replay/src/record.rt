@@ -1,12 +1,8 @@
 // A line of the list, and what is wrong with it.
 use crate::calls::Call;
 use crate::function::Function;
-use crate::numbers::Unjudged;
-use std::alloc::{AllocError, Global};
+use crate::numbers::{MOST, Unfit};
 use std::fmt;
-
-// How many numbers a line may have.
-const MOST: usize = 256;
 
 // What is wrong with a line, as it is shown.
 #[derive(Clone, Copy)]
@@ -35,24 +31,28 @@ fn number(word: &[u8]) -> Option<u64> {
 }
 
 // A line: a call's name, and its numbers, of which `given` stand before the last `=`.
-#[derive(Drop)]
+#[derive(Clone, Copy)]
 pub(crate) struct Record<'a> {
     pub name: &'a [u8],
-    numbers: Vec<u64>,
+    numbers: &'a [u64],
     given: Option<usize>,
 }
 
 impl<'a> Record<'a> {
-    // At a word that is no number, or one number too many, the reading ends, and none of the numbers before it is an argument.
-    pub(crate) fn read(alloc: Global, line: &'a [u8]) -> Result<Self, AllocError> {
+    // The line's numbers stand in `room`. At a word that is no number, or one number too many, the reading ends, and none of the
+    // numbers before it is an argument.
+    pub(crate) fn read(line: &'a [u8], room: &'a mut [u64; MOST]) -> Self {
         let mut words = line.split(|byte| *byte == b' ');
         let name = words.next().unwrap_or(line);
-        let mut numbers = Vec::new(alloc);
+        let mut count = 0;
         let mut given = None;
         for word in words {
             match (word, number(word)) {
-                ([b'='], _) => given = Some(numbers.len()),
-                (_, Some(value)) if numbers.len() < MOST => numbers.push(value)?,
+                ([b'='], _) => given = Some(count),
+                (_, Some(value)) if count < MOST => {
+                    room[count] = value;
+                    count += 1;
+                }
                 _ => {
                     // Kept: such a line has numbers and no arguments, and what is printed of it may not change.
                     given = Some(0);
@@ -60,33 +60,32 @@ impl<'a> Record<'a> {
                 }
             }
         }
-        Ok(Self {
+        Self {
             name,
-            numbers,
+            numbers: room.get(..count).unwrap_or(&[]),
             given,
-        })
+        }
     }
 
     // What is wrong with the line, if anything. One with no `=` has no arguments, unless it is full; and no call is without any.
-    pub(crate) fn fault(&self, alloc: Global) -> Result<Option<Fault>, AllocError> {
+    pub(crate) fn fault(self) -> Option<Fault> {
         let Some(function) = Function::named(self.name) else {
-            return Ok(Some(Fault::Unreadable));
+            return Some(Fault::Unreadable);
         };
-        let numbers = self.numbers.as_slice();
-        let (arguments, answers) = numbers
+        let (arguments, answers) = self
+            .numbers
             .split_at_checked(self.given.unwrap_or(MOST))
-            .unwrap_or((&[], numbers));
+            .unwrap_or((&[], self.numbers));
         let call = Call {
             function,
             arguments,
             answers,
         };
-        match call.agrees(alloc) {
-            Ok(true) => Ok(None),
-            Ok(false) => Ok(Some(Fault::Differs)),
-            Err(Unjudged::Unfit) if call.overruns() => Ok(Some(Fault::Differs)),
-            Err(Unjudged::Unfit) => Ok(Some(Fault::Unreadable)),
-            Err(Unjudged::OutOfMemory) => Err(AllocError),
+        match call.agrees() {
+            Ok(true) => None,
+            Ok(false) => Some(Fault::Differs),
+            Err(Unfit) if call.overruns() => Some(Fault::Differs),
+            Err(Unfit) => Some(Fault::Unreadable),
         }
     }
 }

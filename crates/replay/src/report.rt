@@ -1,6 +1,7 @@
 // How many lines agreed, and which did not.
+use crate::kept::Kept;
+use crate::numbers::MOST;
 use crate::record::{Fault, Record};
-use std::alloc::Global;
 use std::{fmt, io};
 
 // How many bytes of a line are kept. A line that fills them may be longer, and is not read.
@@ -36,32 +37,28 @@ impl fmt::Display for Tally {
 #[derive(Drop)]
 pub(crate) struct Report {
     lines: u64,
-    name: Vec<u8>,
+    name: Kept<NAME>,
     group: Tally,
     all: Tally,
 }
 
 impl Report {
-    pub(crate) fn new(alloc: Global) -> Self {
+    pub(crate) fn new() -> Self {
         Self {
             lines: 0,
-            name: Vec::new(alloc),
+            name: Kept::new(),
             group: Tally::default(),
             all: Tally::default(),
         }
     }
 
     // Counts a line, and shows it where it does not agree.
-    pub(crate) fn add<R: Print + AllocGlobal>(&mut self, rt: &R, line: &[u8]) -> io::Result<()> {
+    pub(crate) fn add(&mut self, rt: &impl Print, line: &[u8]) -> io::Result<()> {
         self.lines = self.lines.wrapping_add(1);
         let fault = match line {
             _ if line.len() >= KEPT => Some(Fault::TooLong),
             [] | [b'#', ..] => return Ok(()),
-            _ => {
-                let record = Record::read(rt.alloc(), line)?;
-                self.turn(rt, record.name)?;
-                record.fault(rt.alloc())?
-            }
+            _ => self.judge(rt, line)?,
         };
         if let Some(fault) = fault {
             self.show_line(rt, line, fault)?;
@@ -69,6 +66,14 @@ impl Report {
         self.group.add(fault.is_none());
         self.all.add(fault.is_none());
         Ok(())
+    }
+
+    // What is wrong with a line that is no comment, if anything. The line begins a group where it has another name.
+    fn judge(&mut self, rt: &impl Print, line: &[u8]) -> io::Result<Option<Fault>> {
+        let mut room = [0; MOST];
+        let record = Record::read(line, &mut room);
+        self.turn(rt, record.name)?;
+        Ok(record.fault())
     }
 
     fn show_line(&self, rt: &impl Print, line: &[u8], fault: Fault) -> io::Result<()> {
@@ -85,14 +90,16 @@ impl Report {
         }
         self.show_group(rt)?;
         self.name.clear();
-        self.name.extend_from_slice(&name[..name.len().min(NAME)])?;
+        for byte in name {
+            self.name.push(*byte);
+        }
         self.group = Tally::default();
         Ok(())
     }
 
     // Shows the present group, if it has a name.
     fn show_group(&self, rt: &impl Print) -> io::Result<()> {
-        if self.name.is_empty() {
+        if self.name.as_slice().is_empty() {
             return Ok(());
         }
         let group = self.group;

@@ -142,15 +142,17 @@ fn large_fields(rt: &impl Print) -> io::Result<()> {
     )
 }
 
+// One word more than a fingerprint takes.
+static ZEROS: [u64; 4097] = [0; 4097];
+
 fn fingerprints(rt: &impl Print) -> io::Result<()> {
-    let zeros = [0; 4097];
     let lists: [(&str, &[u64]); 6] = [
         ("()", &[]),
         ("(1)", &[1]),
         ("(1, 0)", &[1, 0]),
         ("(0, 1)", &[0, 1]),
-        ("4,096 zeros", &zeros[..4096]),
-        ("4,097 zeros", &zeros),
+        ("4,096 zeros", &ZEROS[..4096]),
+        ("4,097 zeros", &ZEROS),
     ];
     for (what, words) in lists {
         show(

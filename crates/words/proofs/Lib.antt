@@ -1,4 +1,5 @@
 pub mod Value
+pub mod Zero
 pub mod Compact
 pub mod Rounds
 pub mod Rev

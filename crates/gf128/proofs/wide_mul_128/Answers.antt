@@ -1,6 +1,6 @@
 -- `gf128::wide_mul_128` meets its contract. Assumes nothing.
 use Rattle.std.proofs.Common.{rules}
-use Rattle.gf128.proofs.Karatsuba.{middle, karatsuba_low, karatsuba_high}
+use Rattle.gf128.proofs.Karatsuba.{middle, middle_low, middle_high}
 use Rattle.gf128.proofs.wide_mul_128.Goals as goal
 
 pub returns : goal.returns
@@ -12,6 +12,6 @@ returns c =
     let m = middle a b (search rules) (search rules) (search rules) (search rules) l h
     c.clmul_64x64-m.ensures c.bitxor.ensures c.bitxor-m.ensures in
     record {
-      low = karatsuba_low a b (search rules) (search rules) (search rules) (search rules) l h m;
-      high = karatsuba_high a b (search rules) (search rules) (search rules) (search rules) l h m;
+      low = middle_low a b (search rules) (search rules) (search rules) (search rules) l h m;
+      high = middle_high a b (search rules) (search rules) (search rules) (search rules) l h m;
     }
