@@ -30,12 +30,12 @@ rows_word_of (suc k) rows h =
     xsum_last k (row rows 0) ∙ ap (λ (x : ℕ). xsum k (row rows 0) ⊕ x) place
     ∙ word_of_turn (8 + 8 * k) k rows h (le_refl (8 + 8 * k)) (rows_word_of k rows h) refl ∙ ap (λ (n : ℕ). word_of n rows) (add-one k)
 
--- a byte more is eight bits more
+-- std counts in bytes
 pow-256 : (k : ℕ) → 256 ^ k ≡ 2 ^ (8 * k)
 pow-256 zero = refl
 pow-256 (suc k) = pow-suc 256 k ∙ ap (λ (n : ℕ). n * 256) (pow-256 k) ∙ sym (pow-byte k)
 
--- and so is the sum that std makes of them
+-- the sum that std makes of the first k + 1 bytes is their number too
 bytes_worth : (k : ℕ) (s : List ℕ) → sum_through (λ i. byte_worth i (slice_index s i)) k ≡ word_of (suc k) s
 bytes_worth zero s = sym (word_of-one s)
 bytes_worth (suc k) s =
@@ -43,7 +43,7 @@ bytes_worth (suc k) s =
     ap₂ (λ (x y : ℕ). x * y) (word_of-one (drop (suc k) s) ∙ get_or-drop (suc k) s 0 0 ∙ ap (λ (n : ℕ). get_or s n 0) (add-zero (suc k))) (sym (pow-256 (suc k))) in
     ap₂ (λ (x y : ℕ). x + y) (bytes_worth k s) (sym top) ∙ sym (word_of_plus (suc k) 1 s) ∙ ap (λ (n : ℕ). word_of n s) (add-one (suc k))
 
--- all of eight rows
+-- so that std's number of eight rows is their word
 pub row_word_whole : (rows : List ℕ) → Bytes rows → from_le_bytes w64 rows ≡ row_word_of rows 0
 unfolding row_word_of
 row_word_whole rows h = bytes_worth 7 rows ∙ sym (rows_word_of 8 rows h)
